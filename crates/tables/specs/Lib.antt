@@ -1,0 +1,4 @@
+-- What the tables' contracts cite.
+pub mod Cells
+pub mod Decode
+pub mod Answers
