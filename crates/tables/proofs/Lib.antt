@@ -1,0 +1,5 @@
+-- Laws that several proofs cite, and the theorems about the tables.
+pub mod Tests
+pub mod Series
+pub mod One
+pub mod Round
