@@ -3,3 +3,5 @@ pub mod Tests
 pub mod Series
 pub mod One
 pub mod Round
+pub mod Entries
+pub mod Walk

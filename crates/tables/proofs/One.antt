@@ -1,22 +1,21 @@
 -- One list, one trainee, one depot, one order, there and back. Assumes nothing.
-use Prim.Native.Nat.{ℕ, zero, suc, _+_, _*_, _≤_}
+use Prim.Native.Nat.{ℕ, zero, suc, _+_, _≤_}
 use mathlib.Core.Path.{_≡_, refl, sym, ap, ap₂, _∙_, subst}
 use mathlib.Core.Logic.{_⊎_, inl, inr}
-use mathlib.Core.Bool.{Bool, true, false, not}
+use mathlib.Core.Bool.{true, false, not}
 use mathlib.Core.Option.{Option, none, some}
-use mathlib.Core.List.{List, [], _∷_, _++_, append-assoc}
+use mathlib.Core.List.{List, [], _∷_, _++_}
 use native.Mathlib.Omega.{arith}
 use lib.ListN.{length, take, drop, length-append, take-append-drop}
-use lib.Seq.{drop-at, take-at, length-take-le, drop-append-seam}
+use lib.Seq.{take-at, length-take-le}
 use lib.Dec.{leb, eqb}
 use borrow.Author.Tests.{leb-true, eqb-true, le-leb, eq-eqb, ne-eqb, not-true}
 use Rattle.meaning.specs.Numbers.{In, _&_}
-use Rattle.meaning.specs.Lists.{member, Distinct, distinct-none, distinct-more, Each, each-none, each-more, weigh}
-use Rattle.meaning.specs.Placement.{Kind, held, barred, Order, Depot, depot, Placement, size, depotSize, LegalEntries, LegalList, no-list, a-list, LegalPosts, no-posts, some-posts, LegalDepot, legal-depot, LegalOrder, Legal}
-use Rattle.tables.specs.Cells.{notReceived, postsCell, lengthCell, listCells, traineeCells, depotCells, depotListCells, kindCell, oneOrder, seriesCells, joined, weightless, headCells, entryCells, orderCells, laid}
-use Rattle.tables.specs.Decode.{within, next, when, goodEntries, listFrom, postsFrom, traineeFrom, depotFrom, kindFrom, pairFrom, orderFrom, seriesFrom, traineesFrom, depotsFrom, ordersFrom, limits, Sides, listsFrom, sidesOf, ordersOf, placementWith, placementOf}
-use Rattle.tables.proofs.Tests.{true-or-false, and-intro, and-left, and-right, Went, went, goes, when-back, when-goes, some-value, some-none, in-within, within-in}
-use Rattle.tables.proofs.Series.{series-cells, joined-weigh, series-there, Series, series-back}
+use Rattle.meaning.specs.Lists.{member, Distinct, distinct-none, distinct-more, Each, each-none, each-more}
+use Rattle.meaning.specs.Placement.{Kind, held, barred, Order, Depot, depot, size, depotSize, LegalList, no-list, a-list, LegalPosts, no-posts, some-posts, LegalDepot, legal-depot, LegalOrder}
+use Rattle.tables.specs.Cells.{notReceived, postsCell, lengthCell, listCells, traineeCells, depotCells, depotListCells, kindCell, oneOrder, weightless}
+use Rattle.tables.specs.Decode.{within, next, goodEntries, listFrom, postsFrom, traineeFrom, depotFrom, kindFrom, pairFrom, orderFrom}
+use Rattle.tables.proofs.Tests.{true-or-false, and-intro, and-left, and-right, went, goes, when-back, when-goes, some-value, some-none, in-within, within-in}
 
 -- ---- good entries
 

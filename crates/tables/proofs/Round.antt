@@ -1,22 +1,21 @@
 -- Tables there and back: the decoder gives a placement exactly if the tables' fronts are the cells of a legal one.
 -- Assumes nothing.
-use Prim.Native.Nat.{ℕ, suc, _+_, _*_, _≤_}
+use Prim.Native.Nat.{ℕ, _+_, _*_, _≤_}
 use mathlib.Core.Path.{_≡_, refl, sym, ap, ap₂, _∙_, subst}
-use mathlib.Core.Bool.{Bool, true}
+use mathlib.Core.Bool.{true}
 use mathlib.Core.Option.{Option, none, some}
 use mathlib.Core.List.{List, [], _∷_, _++_, append-assoc}
 use native.Mathlib.Omega.{arith}
-use lib.ListN.{length, drop}
+use lib.ListN.{length, getD, drop}
 use lib.Seq.{drop-at, drop-append-seam}
 use lib.Dec.{leb, eqb}
 use borrow.Author.Tests.{leb-true, eqb-true, le-leb, eq-eqb}
-use Rattle.meaning.specs.Numbers.{_&_}
 use Rattle.meaning.specs.Lists.{Each, each-none, weigh}
 use Rattle.meaning.specs.Placement.{Order, Depot, Placement, size, depotSize, LegalList, LegalDepot, LegalOrder, Legal}
 use Rattle.tables.specs.Cells.{listCells, traineeCells, depotCells, depotListCells, oneOrder, seriesCells, joined, weightless, headCells, entryCells, cellsOfOrders, orderCells, laid, Holds}
-use Rattle.tables.specs.Decode.{next, traineeFrom, depotFrom, orderFrom, seriesFrom, traineesFrom, depotsFrom, ordersFrom, limits, Sides, listsFrom, sidesOf, ordersOf, placementWith, placementOf}
+use Rattle.tables.specs.Decode.{next, traineeFrom, depotFrom, orderFrom, seriesFrom, traineesFrom, depotsFrom, limits, Sides, listsFrom, sidesOf, ordersOf, fewOrdersOf, placementWith, placementOf}
 use Rattle.tables.proofs.Tests.{and-intro, and-left, and-right, went, goes, when-back, when-goes, some-value, some-none}
-use Rattle.tables.proofs.Series.{series-cells, joined-weigh, series-there, Series, series-back}
+use Rattle.tables.proofs.Series.{series-cells, joined-weigh, series-there, series-back}
 use Rattle.tables.proofs.One.{trainee-wide, entries-weigh, trainee-there, trainee-back, depot-wide, depot-weigh, depot-there, depot-back, noCells, order-wide, order-weigh, order-there, order-back}
 
 laid-front : (cells d r : List ℕ) → d ≡ cells ++ r → d ≡ laid cells d
@@ -135,6 +134,18 @@ sides-back (ed ∷ n ∷ m ∷ hs) e b k =
           (T .rest ∙ ap (λ z. joined listCells ts ++ z) (D .rest) ∙ sym (append-assoc (joined listCells ts) _ _));
     })
 
+-- the first three cells
+pub record Counts (h : List ℕ) (b : Sides) : Type 0 where
+  pub edition : getD h 0 0 ≡ b .edition
+  pub trainees : getD h 1 0 ≡ length (b .trainees)
+  pub depots : getD h 2 0 ≡ length (b .depots)
+
+pub sides-count : (h e : List ℕ) (b : Sides) → sidesOf h e ≡ some b → Counts h b
+unfolding headCells laid
+sides-count h e b k =
+    let q = sides-back h e b k .heads in
+    record { edition = ap (λ z. getD z 0 0) q; trainees = ap (λ z. getD z 1 0) q; depots = ap (λ z. getD z 2 0) q }
+
 -- ---- orders
 
 no-entries : (xs : List Order) → joined noCells xs ++ [] ≡ []
@@ -159,6 +170,10 @@ orders-back n m (c ∷ os) xs k =
     let X = series-back (orderFrom n m) weightless 3 oneOrder noCells (LegalOrder n m) order-wide order-weigh (order-back n m) c 0 os [] xs k in
     record { legal = X .legal; cells = laid-front _ _ (drop (3 * c) os) (ap₂ (λ u v. u ∷ v) (sym (X .count)) (X .heads)) }
 
+few-orders-there : (n m : ℕ) (xs : List Order) (z : List ℕ) → Each (LegalOrder n m) xs → length xs ≤ 1024 → fewOrdersOf n m (cellsOfOrders xs ++ z) ≡ some xs
+unfolding fewOrdersOf
+few-orders-there n m xs z a f = goes _ _ _ (orders-there n m xs z a) ∙ when-goes _ _ (le-leb _ _ f)
+
 -- ---- the three tables
 
 -- the cells of a legal placement, with anything behind them, decode to it
@@ -166,8 +181,7 @@ pub tables-there : (p : Placement) → Legal p → (x y z : List ℕ) → placem
 unfolding placementOf
 tables-there p g x y z =
     goes _ _ _ (sides-there p g x y)
-    ∙ goes _ _ _ (orders-there (length (p .trainees)) (length (p .depots)) (p .orders) z (g .orders))
-    ∙ when-goes _ _ (le-leb _ _ (g .few-orders))
+    ∙ goes _ _ _ (few-orders-there (length (p .trainees)) (length (p .depots)) (p .orders) z (g .orders) (g .few-orders))
 
 -- laid over any tables, they decode to it
 pub laid-there : (p : Placement) → Legal p → (h e o : List ℕ) → placementOf (laid (headCells p) h) (laid (entryCells p) e) (laid (orderCells p) o) ≡ some p
@@ -183,12 +197,20 @@ pub record Parts (h e o : List ℕ) (p : Placement) : Type 0 where
   pub few : length orders ≤ 1024
 
 pub parts : (h e o : List ℕ) (p : Placement) → placementOf h e o ≡ some p → Parts h e o p
-unfolding placementOf
+unfolding placementOf fewOrdersOf
 parts h e o p k =
     let b = went (sidesOf h e) _ k in
-    let x = went (ordersOf (length (b .value .trainees)) (length (b .value .depots)) o) _ (b .on) in
+    let f = went (fewOrdersOf (length (b .value .trainees)) (length (b .value .depots)) o) _ (b .on) in
+    let x = went (ordersOf (length (b .value .trainees)) (length (b .value .depots)) o) _ (f .here) in
     let w = when-back (leb (length (x .value)) 1024) _ (x .on) in
-    record { sides = b .value; orders = x .value; is = some-value (w .1); sides-of = b .here; orders-of = x .here; few = leb-true _ _ (w .0) }
+    record {
+      sides = b .value;
+      orders = x .value;
+      is = ap (placementWith (b .value)) (some-value (w .1)) ∙ some-value (f .on);
+      sides-of = b .here;
+      orders-of = x .here;
+      few = leb-true _ _ (w .0);
+    }
 
 -- what decodes is legal, and the tables' fronts are its cells
 pub tables-back : (h e o : List ℕ) (p : Placement) → placementOf h e o ≡ some p → Holds p h e o

@@ -96,3 +96,13 @@ module _ {A : Type 0} (one : ℕ → List ℕ → List ℕ → Option A) (weight
         rest =
             q .2 ∙ ap (λ z. entries (a .value) ++ z) (r .rest ∙ rw (drop-drop (weigh weight (b .value)) (weight (a .value)) es)) ∙ sym (append-assoc (entries (a .value)) _ _);
       })
+
+-- as many are decoded as were asked for
+pub series-count : {A : Type 0} (one : ℕ → List ℕ → List ℕ → Option A) (weight : A → ℕ) (wide d s : ℕ) (hs es : List ℕ) (xs : List A)
+    → seriesFrom one weight wide d s hs es ≡ some xs → length xs ≡ d
+unfolding seriesFrom
+series-count one weight wide zero s hs es xs q = ap length (sym (some-value q))
+series-count one weight wide (suc d) s hs es xs q =
+    let a = went (one s hs es) _ q in
+    let b = went (seriesFrom one weight wide d (s + weight (a .value)) (drop wide hs) (drop (weight (a .value)) es)) _ (a .on) in
+    ap length (sym (some-value (b .on))) ∙ ap suc (series-count one weight wide d (s + weight (a .value)) (drop wide hs) (drop (weight (a .value)) es) (b .value) (b .here))

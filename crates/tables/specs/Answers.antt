@@ -9,7 +9,6 @@ use lib.Dec.{leb}
 use Rattle.meaning.specs.Numbers.{_&_}
 use Rattle.meaning.specs.Placement.{Placement}
 use Rattle.meaning.specs.Full.{Full, Received, whole, lacking, full}
-use Rattle.meaning.specs.declared.Refusal.{Refusal}
 use Rattle.meaning.specs.declared.Receipt.{Receipt}
 use Rattle.meaning.specs.declared.Receipt.the-variants as receipt
 use Rattle.tables.specs.Decode.{Sides, placementWith, placementOf}

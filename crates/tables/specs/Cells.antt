@@ -1,7 +1,7 @@
 -- The cells that hold a placement: each table's used cells, in order, as functions of the placement.
 -- A start is where a list begins in the entries; a list not received starts where it would and has no cells there.
 -- Assumes nothing.
-use Prim.Native.Nat.{ℕ, zero, suc, _+_, _*_}
+use Prim.Native.Nat.{ℕ, _+_, _*_}
 use mathlib.Core.Path.{_≡_}
 use mathlib.Core.Option.{Option, none, some}
 use mathlib.Core.List.{List, [], _∷_, _++_}

@@ -113,11 +113,14 @@ unfoldable pub ordersOf : ℕ → ℕ → List ℕ → Option (List Order)
 ordersOf n m [] = none
 ordersOf n m (c ∷ os) = ordersFrom n m c os
 
+-- the limit of a file, and not of solving
+unfoldable pub fewOrdersOf : ℕ → ℕ → List ℕ → Option (List Order)
+fewOrdersOf n m o = next (ordersOf n m o) (λ xs. when (leb (length xs) 1024) (some xs))
+
 -- ---- the placement
 
 abbrev pub placementWith : Sides → List Order → Placement
 placementWith b xs = record { edition = b .edition; trainees = b .trainees; depots = b .depots; orders = xs }
 
 unfoldable pub placementOf : List ℕ → List ℕ → List ℕ → Option Placement
-placementOf h e o =
-    next (sidesOf h e) (λ b. next (ordersOf (length (b .trainees)) (length (b .depots)) o) (λ xs. when (leb (length xs) 1024) (some (placementWith b xs))))
+placementOf h e o = next (sidesOf h e) (λ b. next (fewOrdersOf (length (b .trainees)) (length (b .depots)) o) (λ xs. some (placementWith b xs)))

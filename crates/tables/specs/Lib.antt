@@ -2,3 +2,4 @@
 pub mod Cells
 pub mod Decode
 pub mod Answers
+pub mod Walk
