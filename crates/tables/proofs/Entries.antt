@@ -11,8 +11,9 @@ use lib.Dec.{leb, eqb}
 use borrow.Author.Tests.{eqb-true, eqb-false, lt-leb}
 use Rattle.meaning.specs.Numbers.{_&_}
 use Rattle.meaning.specs.Lists.{member}
+use Rattle.meaning.proofs.Booleans.{true-or-false, and-left}
+use Rattle.tables.proofs.Tests.{in-within, within-in}
 use Rattle.tables.specs.Decode.{within, goodEntries}
-use Rattle.tables.proofs.Tests.{true-or-false, and-left, in-within, within-in}
 
 -- ---- one number
 

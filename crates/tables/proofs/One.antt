@@ -13,9 +13,10 @@ use borrow.Author.Tests.{leb-true, eqb-true, le-leb, eq-eqb, ne-eqb, not-true}
 use Rattle.meaning.specs.Numbers.{In, _&_}
 use Rattle.meaning.specs.Lists.{member, Distinct, distinct-none, distinct-more, Each, each-none, each-more}
 use Rattle.meaning.specs.Placement.{Kind, held, barred, Order, Depot, depot, size, depotSize, LegalList, no-list, a-list, LegalPosts, no-posts, some-posts, LegalDepot, legal-depot, LegalOrder}
+use Rattle.meaning.proofs.Booleans.{true-or-false, and-intro, and-left, and-right, some-own, none-some}
+use Rattle.tables.proofs.Tests.{went, goes, when-back, when-goes, in-within, within-in}
 use Rattle.tables.specs.Cells.{notReceived, postsCell, lengthCell, listCells, traineeCells, depotCells, depotListCells, kindCell, oneOrder, weightless}
 use Rattle.tables.specs.Decode.{within, next, goodEntries, listFrom, postsFrom, traineeFrom, depotFrom, kindFrom, pairFrom, orderFrom}
-use Rattle.tables.proofs.Tests.{true-or-false, and-intro, and-left, and-right, went, goes, when-back, when-goes, some-value, some-none, in-within, within-in}
 
 -- ---- good entries
 
@@ -55,7 +56,7 @@ unfolding listFrom lengthCell listCells size
 list-back hi v es l h = go (true-or-false (eqb v notReceived))
   where
     go : (eqb v notReceived ≡ true) ⊎ (eqb v notReceived ≡ false) → ListBack hi v es l
-    go (inl t) = subst (ListBack hi v es) (some-value (rw (t, listFrom) at h)) (record { legal = no-list; cell = eqb-true v notReceived t; rest = refl })
+    go (inl t) = subst (ListBack hi v es) (some-own (rw (t, listFrom) at h)) (record { legal = no-list; cell = eqb-true v notReceived t; rest = refl })
     go (inr f) =
         let w = when-back (leb v hi & leb v (length es) & goodEntries hi (take v es)) _ (rw (f, listFrom) at h) in
         let a = leb-true v hi (and-left _ _ (w .0)) in
@@ -63,7 +64,7 @@ list-back hi v es l h = go (true-or-false (eqb v notReceived))
         let b = leb-true v (length es) (and-left _ _ t) in
         let g = good-legal hi (take v es) (and-right (leb v (length es)) _ t) in
         let n : length (take v es) ≡ v = length-take-le v es b in
-        subst (ListBack hi v es) (some-value (w .1))
+        subst (ListBack hi v es) (some-own (w .1))
         (record { legal = a-list (record { short = omega arith; range = g .0; distinct = g .1 }); cell = sym n; rest = sym (rw n (take-append-drop v es)) })
 
 -- ---- one trainee
@@ -84,8 +85,8 @@ trainee-there m hm s l hs es g = when-goes _ _ (eq-eqb s s refl) ∙ list-there 
 pub trainee-back : (m s : ℕ) (hs es : List ℕ) (l : Option (List ℕ)) → traineeFrom m s hs es ≡ some l
     → LegalList m l × (hs ≡ traineeCells s l ++ drop 2 hs) × (es ≡ listCells l ++ drop (size l) es)
 unfolding traineeFrom traineeCells
-trainee-back m s [] es l h = absurd (some-none h)
-trainee-back m s (a ∷ []) es l h = absurd (some-none h)
+trainee-back m s [] es l h = none-some h
+trainee-back m s (a ∷ []) es l h = none-some h
 trainee-back m s (a ∷ v ∷ hs) es l h =
     let w = when-back (eqb a s) _ h in
     let b = list-back m v es l (w .1) in
@@ -111,10 +112,10 @@ unfolding postsFrom postsCell
 posts-back v p h = go (true-or-false (eqb v notReceived))
   where
     go : (eqb v notReceived ≡ true) ⊎ (eqb v notReceived ≡ false) → LegalPosts p × (v ≡ postsCell p)
-    go (inl t) = subst (λ q. LegalPosts q × (v ≡ postsCell q)) (some-value (rw (t, postsFrom) at h)) (no-posts, eqb-true v notReceived t)
+    go (inl t) = subst (λ q. LegalPosts q × (v ≡ postsCell q)) (some-own (rw (t, postsFrom) at h)) (no-posts, eqb-true v notReceived t)
     go (inr f) =
         let w = when-back (leb v 256) _ (rw (f, postsFrom) at h) in
-        subst (λ q. LegalPosts q × (v ≡ postsCell q)) (some-value (w .1)) (some-posts (leb-true v 256 (w .0)), refl)
+        subst (λ q. LegalPosts q × (v ≡ postsCell q)) (some-own (w .1)) (some-posts (leb-true v 256 (w .0)), refl)
 
 pub depot-there : (n : ℕ) → n ≤ 256 → (s : ℕ) (d : Depot) (hs es : List ℕ) → LegalDepot n d → depotFrom n s (depotCells s d ++ hs) (depotListCells d ++ es) ≡ some d
 unfolding depotFrom depotCells depotListCells next
@@ -127,16 +128,16 @@ DepotBack n s hs es d = LegalDepot n d × (hs ≡ depotCells s d ++ drop 3 hs) �
 pub depot-back : (n s : ℕ) (hs es : List ℕ) (d : Depot) → depotFrom n s hs es ≡ some d
     → LegalDepot n d × (hs ≡ depotCells s d ++ drop 3 hs) × (es ≡ depotListCells d ++ drop (depotSize d) es)
 unfolding depotFrom depotCells depotListCells depotSize
-depot-back n s [] es d h = absurd (some-none h)
-depot-back n s (a ∷ []) es d h = absurd (some-none h)
-depot-back n s (a ∷ v ∷ []) es d h = absurd (some-none h)
+depot-back n s [] es d h = none-some h
+depot-back n s (a ∷ []) es d h = none-some h
+depot-back n s (a ∷ v ∷ []) es d h = none-some h
 depot-back n s (a ∷ v ∷ p ∷ hs) es d h =
     let w = when-back (eqb a s) _ h in
     let x = went (postsFrom p) _ (w .1) in
     let y = went (listFrom n v es) _ (x .on) in
     let q = posts-back p (x .value) (x .here) in
     let b = list-back n v es (y .value) (y .here) in
-    subst (DepotBack n s (a ∷ v ∷ p ∷ hs) es) (some-value (y .on))
+    subst (DepotBack n s (a ∷ v ∷ p ∷ hs) es) (some-own (y .on))
     (legal-depot (q .0) (b .legal), ap₂ (λ f g. f ∷ g) (eqb-true a s (w .0)) (ap₂ (λ f g. f ∷ g ∷ hs) (b .cell) (q .1)), b .rest)
 
 -- ---- one order
@@ -160,9 +161,9 @@ kind-there barred = refl
 
 kind-back : (k : ℕ) (b : Kind) → kindFrom k ≡ some b → k ≡ kindCell b
 unfolding kindFrom kindCell
-kind-back zero b h = ap kindCell (some-value h)
-kind-back (suc zero) b h = ap kindCell (some-value h)
-kind-back (suc (suc k)) b h = absurd (some-none h)
+kind-back zero b h = ap kindCell (some-own h)
+kind-back (suc zero) b h = ap kindCell (some-own h)
+kind-back (suc (suc k)) b h = none-some h
 
 pub order-there : (n m s : ℕ) (o : Order) (hs es : List ℕ) → LegalOrder n m o → orderFrom n m s (oneOrder s o ++ hs) (noCells o ++ es) ≡ some o
 unfolding orderFrom oneOrder pairFrom
@@ -175,13 +176,13 @@ OrderBack n m s hs es o = LegalOrder n m o × (hs ≡ oneOrder s o ++ drop 3 hs)
 pub order-back : (n m s : ℕ) (hs es : List ℕ) (o : Order) → orderFrom n m s hs es ≡ some o
     → LegalOrder n m o × (hs ≡ oneOrder s o ++ drop 3 hs) × (es ≡ noCells o ++ drop (weightless o) es)
 unfolding orderFrom oneOrder noCells weightless pairFrom
-order-back n m s [] es o h = absurd (some-none h)
-order-back n m s (k ∷ []) es o h = absurd (some-none h)
-order-back n m s (k ∷ i ∷ []) es o h = absurd (some-none h)
+order-back n m s [] es o h = none-some h
+order-back n m s (k ∷ []) es o h = none-some h
+order-back n m s (k ∷ i ∷ []) es o h = none-some h
 order-back n m s (k ∷ i ∷ j ∷ hs) es o h =
     let x = went (kindFrom k) _ h in
     let w = when-back (within n i & within m j) _ (x .on) in
-    subst (OrderBack n m s (k ∷ i ∷ j ∷ hs) es) (some-value (w .1)) (
+    subst (OrderBack n m s (k ∷ i ∷ j ∷ hs) es) (some-own (w .1)) (
       record { trainee = within-in n i (and-left _ _ (w .0)); depot = within-in m j (and-right (within n i) _ (w .0)) },
       ap (λ c. c ∷ i ∷ j ∷ hs) (kind-back k (x .value) (x .here)),
       refl,

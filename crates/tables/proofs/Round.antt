@@ -12,9 +12,10 @@ use lib.Dec.{leb, eqb}
 use borrow.Author.Tests.{leb-true, eqb-true, le-leb, eq-eqb}
 use Rattle.meaning.specs.Lists.{Each, each-none, weigh}
 use Rattle.meaning.specs.Placement.{Order, Depot, Placement, size, depotSize, LegalList, LegalDepot, LegalOrder, Legal}
+use Rattle.meaning.proofs.Booleans.{and-intro, and-left, and-right, some-own, none-some}
+use Rattle.tables.proofs.Tests.{went, goes, when-back, when-goes}
 use Rattle.tables.specs.Cells.{listCells, traineeCells, depotCells, depotListCells, oneOrder, seriesCells, joined, weightless, headCells, entryCells, cellsOfOrders, orderCells, laid, Holds}
 use Rattle.tables.specs.Decode.{next, traineeFrom, depotFrom, orderFrom, seriesFrom, traineesFrom, depotsFrom, limits, Sides, listsFrom, sidesOf, ordersOf, fewOrdersOf, placementWith, placementOf}
-use Rattle.tables.proofs.Tests.{and-intro, and-left, and-right, went, goes, when-back, when-goes, some-value, some-none}
 use Rattle.tables.proofs.Series.{series-cells, joined-weigh, series-there, series-back}
 use Rattle.tables.proofs.One.{trainee-wide, entries-weigh, trainee-there, trainee-back, depot-wide, depot-weigh, depot-there, depot-back, noCells, order-wide, order-weigh, order-there, order-back}
 
@@ -98,9 +99,9 @@ pub record HoldsSides (b : Sides) (h e : List ℕ) : Type 0 where
 -- what decodes is legal, and the fronts of heads and entries are its cells
 pub sides-back : (h e : List ℕ) (b : Sides) → sidesOf h e ≡ some b → HoldsSides b h e
 unfolding sidesOf listsFrom headCells entryCells
-sides-back [] e b k = absurd (some-none k)
-sides-back (ed ∷ []) e b k = absurd (some-none k)
-sides-back (ed ∷ n ∷ []) e b k = absurd (some-none k)
+sides-back [] e b k = none-some k
+sides-back (ed ∷ []) e b k = none-some k
+sides-back (ed ∷ n ∷ []) e b k = none-some k
 sides-back (ed ∷ n ∷ m ∷ hs) e b k =
     let a = when-back (limits ed n m) _ k in
     let t = went (traineesFrom n m hs e) _ (a .1) in
@@ -114,7 +115,7 @@ sides-back (ed ∷ n ∷ m ∷ hs) e b k =
     let l = limits-back ed n m (a .0) in
     let N = T .count in
     let M = D .count in
-    subst (λ q. HoldsSides q (ed ∷ n ∷ m ∷ hs) e) (some-value (f .1))
+    subst (λ q. HoldsSides q (ed ∷ n ∷ m ∷ hs) e) (some-own (f .1))
     (record {
       legal = record {
         edition = l .edition;
@@ -165,7 +166,7 @@ pub record HoldsOrders (n m : ℕ) (xs : List Order) (o : List ℕ) : Type 0 whe
 
 pub orders-back : (n m : ℕ) (o : List ℕ) (xs : List Order) → ordersOf n m o ≡ some xs → HoldsOrders n m xs o
 unfolding ordersOf cellsOfOrders
-orders-back n m [] xs k = absurd (some-none k)
+orders-back n m [] xs k = none-some k
 orders-back n m (c ∷ os) xs k =
     let X = series-back (orderFrom n m) weightless 3 oneOrder noCells (LegalOrder n m) order-wide order-weigh (order-back n m) c 0 os [] xs k in
     record { legal = X .legal; cells = laid-front _ _ (drop (3 * c) os) (ap₂ (λ u v. u ∷ v) (sym (X .count)) (X .heads)) }
@@ -206,7 +207,7 @@ parts h e o p k =
     record {
       sides = b .value;
       orders = x .value;
-      is = ap (placementWith (b .value)) (some-value (w .1)) ∙ some-value (f .on);
+      is = ap (placementWith (b .value)) (some-own (w .1)) ∙ some-own (f .on);
       sides-of = b .here;
       orders-of = x .here;
       few = leb-true _ _ (w .0);
@@ -246,7 +247,7 @@ held-decodes h e o p k =
 
 -- number 8: nothing is decoded exactly if no legal placement has these fronts
 pub refused-exactly : (h e o : List ℕ) → (placementOf h e o ≡ none → (p : Placement) → Holds p h e o → ⊥) × (((p : Placement) → Holds p h e o → ⊥) → placementOf h e o ≡ none)
-refused-exactly h e o = (λ n p k. some-none (sym n ∙ held-decodes h e o p k), λ f. go (placementOf h e o) refl f)
+refused-exactly h e o = (λ n p k. none-some (sym n ∙ held-decodes h e o p k), λ f. go (placementOf h e o) refl f)
   where
     go : (q : Option Placement) → placementOf h e o ≡ q → ((p : Placement) → Holds p h e o → ⊥) → q ≡ none
     go none k f = refl

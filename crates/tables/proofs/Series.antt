@@ -7,9 +7,10 @@ use native.Mathlib.Omega.{arith}
 use lib.ListN.{length, drop, length-append}
 use lib.Seq.{drop-at, drop-drop}
 use Rattle.meaning.specs.Lists.{Each, each-none, each-more, weigh}
+use Rattle.meaning.proofs.Booleans.{some-own}
+use Rattle.tables.proofs.Tests.{went}
 use Rattle.tables.specs.Cells.{seriesCells, joined}
 use Rattle.tables.specs.Decode.{next, seriesFrom}
-use Rattle.tables.proofs.Tests.{went, some-value}
 
 -- ---- how many cells there are
 
@@ -80,14 +81,14 @@ module _ {A : Type 0} (one : ℕ → List ℕ → List ℕ → Option A) (weight
   unfolding seriesFrom seriesCells joined weigh
   series-back back zero s hs es xs h =
       let w : wide * 0 ≡ 0 = omega arith in
-      subst (Series zero s hs es) (some-value h) (record { count = refl; legal = each-none; heads = rw w; rest = refl })
+      subst (Series zero s hs es) (some-own h) (record { count = refl; legal = each-none; heads = rw w; rest = refl })
   series-back back (suc d) s hs es xs h =
       let a = went (one s hs es) _ h in
       let b = went (seriesFrom one weight wide d (s + weight (a .value)) (drop wide hs) (drop (weight (a .value)) es)) _ (a .on) in
       let q = back s hs es (a .value) (a .here) in
       let r = series-back back d (s + weight (a .value)) (drop wide hs) (drop (weight (a .value)) es) (b .value) (b .here) in
       let w : wide + wide * d ≡ wide * suc d = omega arith in
-      subst (Series (suc d) s hs es) (some-value (b .on))
+      subst (Series (suc d) s hs es) (some-own (b .on))
       (record {
         count = ap suc (r .count);
         legal = each-more (q .0) (r .legal);
@@ -101,8 +102,8 @@ module _ {A : Type 0} (one : ℕ → List ℕ → List ℕ → Option A) (weight
 pub series-count : {A : Type 0} (one : ℕ → List ℕ → List ℕ → Option A) (weight : A → ℕ) (wide d s : ℕ) (hs es : List ℕ) (xs : List A)
     → seriesFrom one weight wide d s hs es ≡ some xs → length xs ≡ d
 unfolding seriesFrom
-series-count one weight wide zero s hs es xs q = ap length (sym (some-value q))
+series-count one weight wide zero s hs es xs q = ap length (sym (some-own q))
 series-count one weight wide (suc d) s hs es xs q =
     let a = went (one s hs es) _ q in
     let b = went (seriesFrom one weight wide d (s + weight (a .value)) (drop wide hs) (drop (weight (a .value)) es)) _ (a .on) in
-    ap length (sym (some-value (b .on))) ∙ ap suc (series-count one weight wide d (s + weight (a .value)) (drop wide hs) (drop (weight (a .value)) es) (b .value) (b .here))
+    ap length (sym (some-own (b .on))) ∙ ap suc (series-count one weight wide d (s + weight (a .value)) (drop wide hs) (drop (weight (a .value)) es) (b .value) (b .here))

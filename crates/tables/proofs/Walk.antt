@@ -13,12 +13,13 @@ use borrow.Author.Tests.{le-leb, lt-leb, eq-eqb, ne-eqb}
 use Rattle.meaning.specs.Numbers.{_&_}
 use Rattle.meaning.specs.Lists.{weigh}
 use Rattle.meaning.specs.Placement.{Kind, Order, Depot, depot, size, depotSize}
+use Rattle.meaning.proofs.Booleans.{some-own, none-some}
+use Rattle.tables.proofs.Tests.{when-goes, when-stops}
 use Rattle.tables.specs.Cells.{notReceived, weightless}
 use Rattle.tables.specs.Decode.{within, next, when, goodEntries, listFrom, postsFrom, traineeFrom, depotFrom, kindFrom, pairFrom, orderFrom, seriesFrom, traineesFrom, depotsFrom, ordersFrom, limits, Sides, listsFrom, sidesOf, ordersOf, fewOrdersOf, placementWith, placementOf}
 use Rattle.tables.specs.Walk.{isSome, endOf, Ends}
 use Rattle.tables.specs.declared.End.{End}
 use Rattle.tables.specs.declared.End.the-variants.{At, Wrong}
-use Rattle.tables.proofs.Tests.{when-goes, when-stops, some-value, some-none}
 use Rattle.tables.proofs.Series.{series-count}
 use Rattle.tables.proofs.Round.{sides-count}
 
@@ -262,12 +263,12 @@ module _ (n m at : ℕ) (o : List ℕ) (k : at + 2 < length o) where
 -- ---- whether there is one, by its end
 
 pub is-some : {A : Type 0} (w : A → ℕ) (s : ℕ) (o : Option A) {t : ℕ} → endOf w s o ≡ some t → true ≡ isSome o
-is-some w s none h = absurd (some-none h)
+is-some w s none h = none-some h
 is-some w s (some a) h = refl
 
 pub is-none : {A : Type 0} (w : A → ℕ) (s : ℕ) (o : Option A) → endOf w s o ≡ none → false ≡ isSome o
 is-none w s none h = refl
-is-none w s (some a) h = absurd (some-none (sym h))
+is-none w s (some a) h = none-some (sym h)
 
 pub some-light : {A : Type 0} (o : Option A) → isSome o ≡ true → endOf weightless 0 o ≡ some 0
 unfolding weightless
@@ -286,15 +287,15 @@ pub record Ended {A : Type 0} (w : A → ℕ) (s : ℕ) (o : Option A) (t : ℕ)
   pub sum : t ≡ s + w value
 
 pub ended : {A : Type 0} (w : A → ℕ) (s : ℕ) (o : Option A) {t : ℕ} → endOf w s o ≡ some t → Ended w s o t
-ended w s none h = absurd (some-none h)
-ended w s (some a) {t} h = record { value = a; here = refl; sum = sym (some-value h) }
+ended w s none h = none-some h
+ended w s (some a) {t} h = record { value = a; here = refl; sum = sym (some-own h) }
 
 pub end-after : {A : Type 0} (w : A → ℕ) (s : ℕ) (o : Option A) {t : ℕ} → endOf w s o ≡ some t → s ≤ t
 end-after w s o {t} h = let e = ended w s o h in omega (arith, e .sum)
 
 not-ended : {A : Type 0} (w : A → ℕ) (s : ℕ) (o : Option A) → endOf w s o ≡ none → o ≡ none
 not-ended w s none h = refl
-not-ended w s (some a) h = absurd (some-none (sym h))
+not-ended w s (some a) h = none-some (sym h)
 
 when-some : {A : Type 0} (b : Bool) (a : A) → b ≡ isSome (when b (some a))
 unfolding when
