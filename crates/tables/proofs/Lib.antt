@@ -5,3 +5,5 @@ pub mod One
 pub mod Round
 pub mod Entries
 pub mod Walk
+pub mod Seen
+pub mod Lines

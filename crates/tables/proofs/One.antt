@@ -15,7 +15,7 @@ use Rattle.meaning.specs.Lists.{member, Distinct, distinct-none, distinct-more,
 use Rattle.meaning.specs.Placement.{Kind, held, barred, Order, Depot, depot, size, depotSize, LegalList, no-list, a-list, LegalPosts, no-posts, some-posts, LegalDepot, legal-depot, LegalOrder}
 use Rattle.meaning.proofs.Booleans.{true-or-false, and-intro, and-left, and-right, some-own, none-some}
 use Rattle.tables.proofs.Tests.{went, goes, when-back, when-goes, in-within, within-in}
-use Rattle.tables.specs.Cells.{notReceived, postsCell, lengthCell, listCells, traineeCells, depotCells, depotListCells, kindCell, oneOrder, weightless}
+use Rattle.tables.specs.Cells.{missingCell, postsCell, lengthCell, listCells, traineeCells, depotCells, depotListCells, kindCell, oneOrder, weightless}
 use Rattle.tables.specs.Decode.{within, next, goodEntries, listFrom, postsFrom, traineeFrom, depotFrom, kindFrom, pairFrom, orderFrom}
 
 -- ---- good entries
@@ -42,7 +42,7 @@ list-there hi _ es h no-list = refl
 list-there hi _ es h (a-list {l = l} g) =
     let u = g .short in
     let w : length l ≤ length (l ++ es) = omega (arith, length-append l es) in
-    rw (ne-eqb (length l) notReceived (λ e. omega arith), listFrom)
+    rw (ne-eqb (length l) missingCell (λ e. omega arith), listFrom)
     (rw (take-at l es (length l) refl)
     (when-goes _ _ (and-intro (le-leb _ _ u) (and-intro (le-leb (length l) (length (l ++ es)) w) (legal-good hi l (g .range) (g .distinct))))))
 
@@ -53,10 +53,10 @@ pub record ListBack (hi v : ℕ) (es : List ℕ) (l : Option (List ℕ)) : Type 
 
 pub list-back : (hi v : ℕ) (es : List ℕ) (l : Option (List ℕ)) → listFrom hi v es ≡ some l → ListBack hi v es l
 unfolding listFrom lengthCell listCells size
-list-back hi v es l h = go (true-or-false (eqb v notReceived))
+list-back hi v es l h = go (true-or-false (eqb v missingCell))
   where
-    go : (eqb v notReceived ≡ true) ⊎ (eqb v notReceived ≡ false) → ListBack hi v es l
-    go (inl t) = subst (ListBack hi v es) (some-own (rw (t, listFrom) at h)) (record { legal = no-list; cell = eqb-true v notReceived t; rest = refl })
+    go : (eqb v missingCell ≡ true) ⊎ (eqb v missingCell ≡ false) → ListBack hi v es l
+    go (inl t) = subst (ListBack hi v es) (some-own (rw (t, listFrom) at h)) (record { legal = no-list; cell = eqb-true v missingCell t; rest = refl })
     go (inr f) =
         let w = when-back (leb v hi & leb v (length es) & goodEntries hi (take v es)) _ (rw (f, listFrom) at h) in
         let a = leb-true v hi (and-left _ _ (w .0)) in
@@ -105,14 +105,14 @@ depot-weigh (depot p l) = entries-weigh l
 posts-there : (p : Option ℕ) → LegalPosts p → postsFrom (postsCell p) ≡ some p
 unfolding postsFrom postsCell
 posts-there _ no-posts = refl
-posts-there _ (some-posts {p = v} h) = rw (ne-eqb v notReceived (λ e. omega arith), postsFrom) (when-goes _ _ (le-leb v 256 h))
+posts-there _ (some-posts {p = v} h) = rw (ne-eqb v missingCell (λ e. omega arith), postsFrom) (when-goes _ _ (le-leb v 256 h))
 
 pub posts-back : (v : ℕ) (p : Option ℕ) → postsFrom v ≡ some p → LegalPosts p × (v ≡ postsCell p)
 unfolding postsFrom postsCell
-posts-back v p h = go (true-or-false (eqb v notReceived))
+posts-back v p h = go (true-or-false (eqb v missingCell))
   where
-    go : (eqb v notReceived ≡ true) ⊎ (eqb v notReceived ≡ false) → LegalPosts p × (v ≡ postsCell p)
-    go (inl t) = subst (λ q. LegalPosts q × (v ≡ postsCell q)) (some-own (rw (t, postsFrom) at h)) (no-posts, eqb-true v notReceived t)
+    go : (eqb v missingCell ≡ true) ⊎ (eqb v missingCell ≡ false) → LegalPosts p × (v ≡ postsCell p)
+    go (inl t) = subst (λ q. LegalPosts q × (v ≡ postsCell q)) (some-own (rw (t, postsFrom) at h)) (no-posts, eqb-true v missingCell t)
     go (inr f) =
         let w = when-back (leb v 256) _ (rw (f, postsFrom) at h) in
         subst (λ q. LegalPosts q × (v ≡ postsCell q)) (some-own (w .1)) (some-posts (leb-true v 256 (w .0)), refl)

@@ -1,11 +1,12 @@
 -- One after another, there and back: what was laid is decoded, and what is decoded was laid. Assumes nothing.
-use Prim.Native.Nat.{ℕ, zero, suc, _+_, _*_}
+use Prim.Native.Nat.{ℕ, zero, suc, _+_, _*_, _≤_, _<_}
 use mathlib.Core.Path.{_≡_, refl, sym, ap, ap₂, _∙_, subst}
 use mathlib.Core.Option.{Option, some}
 use mathlib.Core.List.{List, [], _∷_, _++_, append-assoc}
 use native.Mathlib.Omega.{arith}
-use lib.ListN.{length, drop, length-append}
-use lib.Seq.{drop-at, drop-drop}
+use native.Mathlib.Numerals.{add-one}
+use lib.ListN.{length, getD, drop, length-append, length-drop}
+use lib.Seq.{drop-at, drop-cons, drop-drop}
 use Rattle.meaning.specs.Lists.{Each, each-none, each-more, weigh}
 use Rattle.meaning.proofs.Booleans.{some-own}
 use Rattle.tables.proofs.Tests.{went}
@@ -107,3 +108,46 @@ series-count one weight wide (suc d) s hs es xs q =
     let a = went (one s hs es) _ q in
     let b = went (seriesFrom one weight wide d (s + weight (a .value)) (drop wide hs) (drop (weight (a .value)) es)) _ (a .on) in
     ap length (sym (some-own (b .on))) ∙ ap suc (series-count one weight wide d (s + weight (a .value)) (drop wide hs) (drop (weight (a .value)) es) (b .value) (b .here))
+
+-- ---- the cells in front
+
+pub two-cells : (h : List ℕ) (at : ℕ) → at + 1 < length h → drop at h ≡ getD h at 0 ∷ getD h (at + 1) 0 ∷ drop (at + 2) h
+two-cells h at k =
+    let z : suc (suc at) ≡ at + 2 = omega arith in
+    drop-cons h at 0 (omega arith) ∙ ap (λ x. getD h at 0 ∷ x) (drop-cons h (suc at) 0 (omega arith) ∙ rw (add-one, z))
+
+pub three-cells : (h : List ℕ) (at : ℕ) → at + 2 < length h → drop at h ≡ getD h at 0 ∷ getD h (at + 1) 0 ∷ getD h (at + 2) 0 ∷ drop (at + 3) h
+three-cells h at k =
+    let z : suc (at + 2) ≡ at + 3 = omega arith in
+    two-cells h at (omega arith) ∙ ap (λ x. getD h at 0 ∷ getD h (at + 1) 0 ∷ x) (drop-cons h (at + 2) 0 k ∙ rw z)
+
+-- ---- one of them
+
+-- the k-th is decoded from its own cells, wherever its entries start
+pub record Single {A : Type 0} (one : ℕ → List ℕ → List ℕ → Option A) (h e : List ℕ) (at : ℕ) (x : A) : Type 0 where
+  pub start : ℕ
+  pub within : start ≤ length e
+  pub here : one start (drop at h) (drop start e) ≡ some x
+
+pub series-at : {A : Type 0} (one : ℕ → List ℕ → List ℕ → Option A) (weight : A → ℕ) (wide : ℕ) (h e : List ℕ) (x : A)
+    → ((s : ℕ) (hs es : List ℕ) (a : A) → one s hs es ≡ some a → weight a ≤ length es)
+    → (d at s : ℕ) (xs : List A) → s ≤ length e → seriesFrom one weight wide d s (drop at h) (drop s e) ≡ some xs
+    → (k : ℕ) → k < d → Single one h e (at + wide * k) (getD xs k x)
+unfolding seriesFrom
+series-at one weight wide h e x fit zero at s xs u q k l = absurd (omega arith)
+series-at one weight wide h e x fit (suc d) at s xs u q k l =
+    let a = went (one s (drop at h) (drop s e)) _ q in
+    let b = went (seriesFrom one weight wide d (s + weight (a .value)) (drop wide (drop at h)) (drop (weight (a .value)) (drop s e))) _ (a .on) in
+    subst (λ z. Single one h e (at + wide * k) (getD z k x)) (some-own (b .on))
+    (go k l (a .value) (b .value) (a .here) (b .here) (λ v ys z w j m. series-at one weight wide h e x fit d (at + wide) (s + v) ys z w j m))
+  where
+    go : (k : ℕ) → k < suc d → (v : _) (ys : List _) → one s (drop at h) (drop s e) ≡ some v
+        → seriesFrom one weight wide d (s + weight v) (drop wide (drop at h)) (drop (weight v) (drop s e)) ≡ some ys
+        → ((v : ℕ) (ys : List _) → s + v ≤ length e → seriesFrom one weight wide d (s + v) (drop (at + wide) h) (drop (s + v) e) ≡ some ys
+        → (j : ℕ) → j < d → Single one h e (at + wide + wide * j) (getD ys j x))
+        → Single one h e (at + wide * k) (getD (v ∷ ys) k x)
+    go zero m v ys p r ih = let z : at + wide * 0 ≡ at = omega arith in record { start = s; within = u; here = rw z p }
+    go (suc j) m v ys p r ih =
+        let z : at + wide + wide * j ≡ at + wide * suc j = omega arith in
+        let w : seriesFrom one weight wide d (s + weight v) (drop (at + wide) h) (drop (s + weight v) e) ≡ some ys = rw (drop-drop wide at h, drop-drop (weight v) s e) at r in
+        subst (λ i. Single one h e i (getD ys j x)) z (ih (weight v) ys (omega (arith, fit s (drop at h) (drop s e) v p, length-drop s e)) w j (omega arith))

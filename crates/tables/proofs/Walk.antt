@@ -5,7 +5,6 @@ use mathlib.Core.Bool.{Bool, true, false, false≢true}
 use mathlib.Core.Option.{Option, none, some}
 use mathlib.Core.List.{List, [], _∷_}
 use native.Mathlib.Omega.{arith}
-use native.Mathlib.Numerals.{add-one}
 use lib.ListN.{length, getD, take, drop, length-drop}
 use lib.Seq.{drop-cons, drop-drop, length-take-le}
 use lib.Dec.{leb, eqb}
@@ -15,28 +14,28 @@ use Rattle.meaning.specs.Lists.{weigh}
 use Rattle.meaning.specs.Placement.{Kind, Order, Depot, depot, size, depotSize}
 use Rattle.meaning.proofs.Booleans.{some-own, none-some}
 use Rattle.tables.proofs.Tests.{when-goes, when-stops}
-use Rattle.tables.specs.Cells.{notReceived, weightless}
+use Rattle.tables.specs.Cells.{missingCell, weightless}
 use Rattle.tables.specs.Decode.{within, next, when, goodEntries, listFrom, postsFrom, traineeFrom, depotFrom, kindFrom, pairFrom, orderFrom, seriesFrom, traineesFrom, depotsFrom, ordersFrom, limits, Sides, listsFrom, sidesOf, ordersOf, fewOrdersOf, placementWith, placementOf}
 use Rattle.tables.specs.Walk.{isSome, endOf, Ends}
 use Rattle.tables.specs.declared.End.{End}
 use Rattle.tables.specs.declared.End.the-variants.{At, Wrong}
-use Rattle.tables.proofs.Series.{series-count}
+use Rattle.tables.proofs.Series.{two-cells, three-cells, series-count}
 use Rattle.tables.proofs.Round.{sides-count}
 
 -- ---- one list
 
 module _ (hi v s : ℕ) (e : List ℕ) where
-  pub list-not-received : v ≡ notReceived → endOf size s (listFrom hi v (drop s e)) ≡ some s
+  pub list-not-received : v ≡ missingCell → endOf size s (listFrom hi v (drop s e)) ≡ some s
   unfolding listFrom size
-  list-not-received h = let z : s + 0 ≡ s = omega arith in rw (eq-eqb v notReceived h, listFrom) (ap some z)
+  list-not-received h = let z : s + 0 ≡ s = omega arith in rw (eq-eqb v missingCell h, listFrom) (ap some z)
 
-  module _ (given : v ≡ notReceived → ⊥) where
+  module _ (given : v ≡ missingCell → ⊥) where
     abbrev fits : Bool
     fits = leb v hi & leb v (length (drop s e)) & goodEntries hi (take v (drop s e))
 
     list-when : listFrom hi v (drop s e) ≡ when fits (some (some (take v (drop s e))))
     unfolding listFrom
-    list-when = rw (ne-eqb v notReceived given, listFrom)
+    list-when = rw (ne-eqb v missingCell given, listFrom)
 
     list-no : fits ≡ false → endOf size s (listFrom hi v (drop s e)) ≡ none
     list-no h = rw (list-when, when-stops fits _ h)
@@ -67,16 +66,6 @@ module _ (hi v s : ℕ) (e : List ℕ) where
           rw (list-when, when-goes fits _ (list-good ∙ g)) (rw n)
 
 -- ---- one trainee, one depot
-
-two-cells : (h : List ℕ) (at : ℕ) → at + 1 < length h → drop at h ≡ getD h at 0 ∷ getD h (at + 1) 0 ∷ drop (at + 2) h
-two-cells h at k =
-    let z : suc (suc at) ≡ at + 2 = omega arith in
-    drop-cons h at 0 (omega arith) ∙ ap (λ x. getD h at 0 ∷ x) (drop-cons h (suc at) 0 (omega arith) ∙ rw (add-one, z))
-
-three-cells : (h : List ℕ) (at : ℕ) → at + 2 < length h → drop at h ≡ getD h at 0 ∷ getD h (at + 1) 0 ∷ getD h (at + 2) 0 ∷ drop (at + 3) h
-three-cells h at k =
-    let z : suc (at + 2) ≡ at + 3 = omega arith in
-    two-cells h at (omega arith) ∙ ap (λ x. getD h at 0 ∷ getD h (at + 1) 0 ∷ x) (drop-cons h (at + 2) 0 k ∙ rw z)
 
 module _ (m s at : ℕ) (h es : List ℕ) (k : at + 1 < length h) where
   trainee-is : traineeFrom m s (drop at h) es ≡ when (eqb (getD h at 0) s) (listFrom m (getD h (at + 1) 0) es)
@@ -175,27 +164,30 @@ pub record Left {A : Type 0} (one : ℕ → List ℕ → List ℕ → Option A) 
   pub rest : whole ≡ endOf (weigh weight) s (seriesFrom one weight wide d s (drop at h) (drop s e))
 
 module _ {A : Type 0} (one : ℕ → List ℕ → List ℕ → Option A) (weight : A → ℕ) (wide : ℕ) (h e : List ℕ) (whole : Option ℕ) (at s d : ℕ) (l : Left one weight wide h e whole at s d) where
-  pub walk-wrong : (d′ : ℕ) → d ≡ suc d′ → {r : End} → r ≡ Wrong → Ends (length e) (endOf weight s (one s (drop at h) (drop s e))) r → whole ≡ none
-  walk-wrong d′ n x y = left-none one weight wide h e at s d whole (l .rest) d′ n (ended-wrong (length e) _ x y)
+  -- the cells of the next one stand at `here`
+  pub walk-wrong : (here : ℕ) → here ≡ at → (d′ : ℕ) → d ≡ suc d′ → {r : End} → r ≡ Wrong
+      → Ends (length e) (endOf weight s (one s (drop here h) (drop s e))) r → whole ≡ none
+  walk-wrong here z d′ n x y =
+      left-none one weight wide h e at s d whole (l .rest) d′ n (ap (λ a. endOf weight s (one s (drop a h) (drop s e))) (sym z) ∙ ended-wrong (length e) _ x y)
 
-  pub walk-on : (at′ d′ : ℕ) → d ≡ suc d′ → at′ ≡ at + wide → {r : End} {t : ℕ} → r ≡ At t
-      → Ends (length e) (endOf weight s (one s (drop at h) (drop s e))) r → Left one weight wide h e whole at′ t d′
-  walk-on at′ d′ n z x y =
+  pub walk-on : (here : ℕ) → here ≡ at → (at′ d′ : ℕ) → d ≡ suc d′ → at′ ≡ at + wide → {r : End} {t : ℕ} → r ≡ At t
+      → Ends (length e) (endOf weight s (one s (drop here h) (drop s e))) r → Left one weight wide h e whole at′ t d′
+  walk-on here z at′ d′ n w x y =
       let E = ended-at (length e) _ x y in
-      record { inside = E .1; rest = left-more one weight wide h e at s d whole (l .rest) d′ at′ _ n z (E .0) }
+      record { inside = E .1; rest = left-more one weight wide h e at s d whole (l .rest) d′ at′ _ n w (ap (λ a. endOf weight s (one s (drop a h) (drop s e))) (sym z) ∙ E .0) }
 
   pub walk-done : d ≡ 0 → Ends (length e) whole (At s)
   walk-done n = (left-done one weight wide h e at s d whole (l .rest) n, l .inside)
 
 -- ---- posts, limits, orders
 
-pub posts-not-received : (v : ℕ) → v ≡ notReceived → true ≡ isSome (postsFrom v)
+pub posts-not-received : (v : ℕ) → v ≡ missingCell → true ≡ isSome (postsFrom v)
 unfolding postsFrom
-posts-not-received v h = rw (eq-eqb v notReceived h, postsFrom)
+posts-not-received v h = rw (eq-eqb v missingCell h, postsFrom)
 
-pub posts-given : (v : ℕ) → (v ≡ notReceived → ⊥) → leb v 256 ≡ isSome (postsFrom v)
+pub posts-given : (v : ℕ) → (v ≡ missingCell → ⊥) → leb v 256 ≡ isSome (postsFrom v)
 unfolding postsFrom when
-posts-given v h = rw (ne-eqb v notReceived h, postsFrom) (go (leb v 256))
+posts-given v h = rw (ne-eqb v missingCell h, postsFrom) (go (leb v 256))
   where
     go : (b : Bool) → b ≡ isSome (when b (some (some v)))
     go true = refl

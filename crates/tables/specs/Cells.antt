@@ -1,24 +1,24 @@
 -- The cells that hold a placement: each table's used cells, in order, as functions of the placement.
 -- A start is where a list begins in the entries; a list not received starts where it would and has no cells there.
 -- Assumes nothing.
-use Prim.Native.Nat.{ℕ, _+_, _*_}
+use Prim.Native.Nat.{ℕ, _+_, _*_, _≤_}
 use mathlib.Core.Path.{_≡_}
 use mathlib.Core.Option.{Option, none, some}
 use mathlib.Core.List.{List, [], _∷_, _++_}
-use lib.ListN.{length, drop}
+use lib.ListN.{length, getD, take, drop}
 use Rattle.meaning.specs.Lists.{weigh}
 use Rattle.meaning.specs.Placement.{Kind, held, barred, Order, Depot, depot, Placement, size, depotSize, Legal}
 
 -- the cell of a length or of posts not received
-abbrev pub notReceived : ℕ
-notReceived = 65535
+abbrev pub missingCell : ℕ
+missingCell = 65535
 
 unfoldable pub postsCell : Option ℕ → ℕ
-postsCell none = notReceived
+postsCell none = missingCell
 postsCell (some v) = v
 
 unfoldable pub lengthCell : Option (List ℕ) → ℕ
-lengthCell none = notReceived
+lengthCell none = missingCell
 lengthCell (some l) = length l
 
 -- ---- one trainee, one depot, one order
@@ -95,3 +95,13 @@ traineeStart i = 2 * i + 1
 -- of n trainees, depot j's start; the length and the posts stand behind it
 abbrev pub depotStart : ℕ → ℕ → ℕ
 depotStart n j = 2 * n + 3 * j
+
+-- the part of the entries whose start and length stand at `at`
+unfoldable pub part : List ℕ → List ℕ → ℕ → List ℕ
+part h e at = take (getD h (at + 1) 0) (drop (getD h at 0) e)
+
+-- everyone whom the heads count has cells
+pub record HeadRoom (h : List ℕ) : Type 0 where
+  pub few-trainees : getD h 1 0 ≤ 256
+  pub few-depots : getD h 2 0 ≤ 64
+  pub cells : 3 + 2 * getD h 1 0 + 3 * getD h 2 0 ≤ length h

@@ -10,7 +10,7 @@ use lib.Dec.{leb, eqb}
 use Rattle.meaning.specs.Numbers.{_&_}
 use Rattle.meaning.specs.Lists.{member, weigh}
 use Rattle.meaning.specs.Placement.{Kind, held, barred, Order, Depot, depot, Placement, size, depotSize}
-use Rattle.tables.specs.Cells.{notReceived, weightless}
+use Rattle.tables.specs.Cells.{missingCell, weightless}
 
 -- ---- one value after another
 
@@ -36,10 +36,10 @@ goodEntries hi (x ∷ xs) = within hi x & not (member x xs) & goodEntries hi xs
 -- the list whose length cell is v, in front of the entries es
 unfoldable pub listFrom : ℕ → ℕ → List ℕ → Option (Option (List ℕ))
 listFrom hi v es =
-    elim (eqb v notReceived) [ true ↦ some none | false ↦ when (leb v hi & leb v (length es) & goodEntries hi (take v es)) (some (some (take v es))) ]
+    elim (eqb v missingCell) [ true ↦ some none | false ↦ when (leb v hi & leb v (length es) & goodEntries hi (take v es)) (some (some (take v es))) ]
 
 unfoldable pub postsFrom : ℕ → Option (Option ℕ)
-postsFrom v = elim (eqb v notReceived) [ true ↦ some none | false ↦ when (leb v 256) (some (some v)) ]
+postsFrom v = elim (eqb v missingCell) [ true ↦ some none | false ↦ when (leb v 256) (some (some v)) ]
 
 -- the entries of the next list start at s
 unfoldable pub traineeFrom : ℕ → ℕ → List ℕ → List ℕ → Option (Option (List ℕ))

@@ -1,14 +1,17 @@
 // The lent tables: what their cells hold, and what can be read from them.
 ghost use mathlib.Core.Path.{_≡_};
 ghost use mathlib.Core.Bool.{not, false};
-ghost use mathlib.Core.List.{[]};
-ghost use Prim.Native.Nat.{_+_, _-_, _*_, _≤_, _<_};
+ghost use mathlib.Core.Option.{some};
+ghost use mathlib.Core.List.{List, []};
+ghost use Prim.Native.Nat.{ℕ, _+_, _-_, _*_, _≤_, _<_};
 ghost use lib.ListN.{length, getD, drop};
 ghost use Rattle.meaning.specs.Numbers.{_&_};
 ghost use Rattle.meaning.specs.Lists.{weigh};
 ghost use Rattle.meaning.specs.Placement.{size, depotSize};
-ghost use Rattle.tables.specs.Decode.{within, goodEntries, listFrom, postsFrom, traineeFrom, depotFrom, orderFrom, traineesFrom, depotsFrom, ordersFrom, limits, listsFrom, sidesOf, fewOrdersOf, placementOf};
-ghost use Rattle.tables.specs.Walk.{isSome, endOf, Ends};
+ghost use Rattle.tables.specs.Cells.{traineeStart, depotStart, HeadRoom};
+ghost use Rattle.tables.specs.Decode.{within, goodEntries, listFrom, postsFrom, traineeFrom, depotFrom, orderFrom, traineesFrom, depotsFrom, ordersFrom, limits, Sides, listsFrom, sidesOf, fewOrdersOf, placementOf};
+ghost use Rattle.tables.specs.Answers.{fullSides, lackingLine};
+ghost use Rattle.tables.specs.Walk.{isSome, endOf, Ends, firstLine, traineeLacks, depotLacks};
 
 // A length or posts not received.
 pub const NOT_RECEIVED: usize = 65535;
@@ -35,6 +38,22 @@ pub fn depots_of(heads: &[u16]) -> usize
     ensures { λ r. ⌜ r ≡ getD (now (heads .entry)) 2 0 ⌝ }
 {
     cell(heads, 2)
+}
+
+// Where trainee i's cells stand.
+pub fn trainee_at(i: usize) -> usize
+    requires { ⌜ i ≤ 256 ⌝ }
+    ensures { λ r. ⌜ r ≡ traineeStart i ⌝ }
+{
+    2 * i + 1
+}
+
+// Where depot j's cells stand, behind those of n trainees.
+pub fn depot_at(n: usize, j: usize) -> usize
+    requires { ⌜ (n ≤ 256) × (j ≤ 64) ⌝ }
+    ensures { λ r. ⌜ r ≡ depotStart n j ⌝ }
+{
+    2 * n + 3 * j
 }
 
 // Where the list begins whose cells stand at `at`.
@@ -146,16 +165,16 @@ fn trainees_end(heads: &[u16], entries: &[u16], n: usize, m: usize) -> End
     ensures { λ r. ⌜ Ends (length (now (entries .entry))) (endOf (weigh size) 0 (traineesFrom n m (drop 3 (now (heads .entry))) (now (entries .entry)))) r ⌝ }
 {
     let mut s: usize = 0;
-    let mut k: usize = 0;
-    while k < n {
-        let t = trainee_end(heads, entries, 3 + 2 * k, s, m);
+    let mut i: usize = 1;
+    while i <= n {
+        let t = trainee_end(heads, entries, trainee_at(i), s, m);
         match t {
             End::Wrong => {
                 return End::Wrong;
             }
             End::At(next) => {
                 s = next;
-                k += 1;
+                i += 1;
             }
         }
     }
@@ -186,22 +205,22 @@ fn depot_end(heads: &[u16], entries: &[u16], at: usize, s: usize, n: usize) -> E
     list_end(entries, s, length_of(heads, at), n)
 }
 
-// The end of all depots' lists, whose cells begin at `from` and whose entries at `start`.
-fn depots_end(heads: &[u16], entries: &[u16], from: usize, start: usize, n: usize, m: usize) -> End
-    requires { ⌜ (from + 3 * m ≤ length (now heads)) × (start ≤ length (now entries)) × (n ≤ 256) × (m ≤ 64) ⌝ }
-    ensures { λ r. ⌜ Ends (length (now (entries .entry))) (endOf (weigh depotSize) start (depotsFrom n m start (drop from (now (heads .entry))) (drop start (now (entries .entry))))) r ⌝ }
+// The end of all depots' lists, whose entries begin at `start`.
+fn depots_end(heads: &[u16], entries: &[u16], start: usize, n: usize, m: usize) -> End
+    requires { ⌜ (3 + 2 * n + 3 * m ≤ length (now heads)) × (start ≤ length (now entries)) × (n ≤ 256) × (m ≤ 64) ⌝ }
+    ensures { λ r. ⌜ Ends (length (now (entries .entry))) (endOf (weigh depotSize) start (depotsFrom n m start (drop (3 + 2 * n) (now (heads .entry))) (drop start (now (entries .entry))))) r ⌝ }
 {
     let mut s = start;
-    let mut k: usize = 0;
-    while k < m {
-        let t = depot_end(heads, entries, from + 3 * k, s, n);
+    let mut j: usize = 1;
+    while j <= m {
+        let t = depot_end(heads, entries, depot_at(n, j), s, n);
         match t {
             End::Wrong => {
                 return End::Wrong;
             }
             End::At(next) => {
                 s = next;
-                k += 1;
+                j += 1;
             }
         }
     }
@@ -233,7 +252,7 @@ fn lists_ok(heads: &[u16], entries: &[u16], n: usize, m: usize) -> bool
             if 4096 < s {
                 return false;
             }
-            let d = depots_end(heads, entries, 3 + 2 * n, s, n, m);
+            let d = depots_end(heads, entries, s, n, m);
             match d {
                 End::Wrong => false,
                 End::At(f) => f - s <= 4096,
@@ -315,4 +334,59 @@ pub fn used_cells_ok(heads: &[u16], entries: &[u16], orders: &[u16]) -> bool
         return false;
     }
     orders_ok(orders, trainees_of(heads), depots_of(heads))
+}
+
+// The line of the first trainee whose list was not received; 0 for none.
+fn missing_trainee(heads: &[u16], n: usize) -> usize
+    requires { ⌜ (3 + 2 * n ≤ length (now heads)) × (n ≤ 256) ⌝ }
+    ensures { λ r. ⌜ r ≡ firstLine (traineeLacks (now (heads .entry))) 1 n 1 ⌝ }
+{
+    let mut i: usize = 1;
+    while i <= n {
+        if length_of(heads, trainee_at(i)) == NOT_RECEIVED {
+            return 1 + i;
+        }
+        i += 1;
+    }
+    0
+}
+
+// Whether depot j's list or posts were not received.
+fn depot_lacks(heads: &[u16], n: usize, j: usize) -> bool
+    requires { ⌜ (2 * n + 3 * j + 2 < length (now heads)) × (n ≤ 256) × (j ≤ 64) ⌝ }
+    ensures { λ r. ⌜ r ≡ depotLacks (now (heads .entry)) n j ⌝ }
+{
+    let at = depot_at(n, j);
+    if length_of(heads, at) == NOT_RECEIVED {
+        return true;
+    }
+    posts_of(heads, at) == NOT_RECEIVED
+}
+
+// The line of the first depot whose list or posts were not received; 0 for none.
+fn missing_depot(heads: &[u16], n: usize, m: usize) -> usize
+    requires { ⌜ (3 + 2 * n + 3 * m ≤ length (now heads)) × (n ≤ 256) × (m ≤ 64) ⌝ }
+    ensures { λ r. ⌜ r ≡ firstLine (depotLacks (now (heads .entry)) n) (n + 1) m 1 ⌝ }
+{
+    let mut j: usize = 1;
+    while j <= m {
+        if depot_lacks(heads, n, j) {
+            return n + 1 + j;
+        }
+        j += 1;
+    }
+    0
+}
+
+// The line that number 7 gives for heads that hold a placement's, whatever the entries beside them; 0 where all was received.
+pub fn first_missing_line(heads: &[u16]) -> u16
+    requires { ⌜ HeadRoom (now heads) ⌝ }
+    ensures { λ r. ⌜ ((e : List ℕ) (b : Sides) → sidesOf (now (heads .entry)) e ≡ some b → r ≡ lackingLine (fullSides b)) ⌝ }
+{
+    let n = trainees_of(heads);
+    let first = missing_trainee(heads, n);
+    if first != 0 {
+        return first as u16;
+    }
+    missing_depot(heads, n, depots_of(heads)) as u16
 }

@@ -25,12 +25,6 @@ returns c =
     let E = ended-at (length (a .entries .now)) _ (c .before .before .t .given .1) (c .before .before .before .before .trainees-end .ensures) in
     lists-many (getD (a .heads .now) 0 0) (a .n) (a .m) (a .heads .now) (a .entries .now) _ (E .0) (c .if1 .taken)
 
-mul-depots-end : tie.Need-mul-depots-end
-mul-depots-end c = search needs
-
-add-depots-end : tie.Need-add-depots-end
-add-depots-end c = search needs
-
 depots-end-requires : tie.Need-depots-end-requires
 depots-end-requires c κs =
     let a = c .before .before .before .before .before .before .before .args in
@@ -76,8 +70,6 @@ lists-ok-spec =
     enum-told
     enum-known-t
     returns
-    mul-depots-end
-    add-depots-end
     depots-end-requires
     enum-told-2
     enum-known-d

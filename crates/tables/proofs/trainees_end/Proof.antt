@@ -1,11 +1,12 @@
 -- What is left of the series is decoded from where the walk stands, so the end of the whole is the end of the rest.
-use Prim.Native.Nat.{_+_, _*_, _-_, _≤_}
+use Prim.Native.Nat.{_+_, _-_, _≤_}
+use mathlib.Core.Path.{_≡_}
 use native.Mathlib.Omega.{arith}
-use native.Mathlib.Nat.{sub-zero}
 use lib.ListN.{drop}
 use borrow.Author.Needs.{needs}
 use Rattle.meaning.specs.Lists.{weigh}
 use Rattle.meaning.specs.Placement.{size}
+use Rattle.tables.specs.Cells.{traineeStart}
 use Rattle.tables.specs.Decode.{traineeFrom, traineesFrom}
 use Rattle.tables.specs.Walk.{endOf}
 use Rattle.tables.proofs.Walk.{Left, walk-wrong, walk-on, walk-done}
@@ -13,19 +14,16 @@ use Rattle.tables.proofs.trainees_end.Statement.{statement}
 use Rattle.tables.proofs.trainees_end.Tie as tie
 
 abbrev Inv-loop : tie.InvT-loop
-Inv-loop heads entries n m s₀ k₀ s k = (k ≤ n) × Left (traineeFrom m) size 2 heads entries (endOf (weigh size) 0 (traineesFrom n m (drop 3 heads) entries)) (3 + 2 * k) s (n - k)
+Inv-loop heads entries n m s₀ i₀ s i = (1 ≤ i) × (i ≤ n + 1) × Left (traineeFrom m) size 2 heads entries (endOf (weigh size) 0 (traineesFrom n m (drop 3 heads) entries)) (traineeStart i) s (n + 1 - i)
 
 abbrev μ-loop : tie.MeasureT-loop
-μ-loop heads entries n m s₀ k₀ s k = n - k
+μ-loop heads entries n m s₀ i₀ s i = n + 1 - i
 
 loop-holds : tie.Need-loop-holds Inv-loop μ-loop
-loop-holds c = (omega arith, record { inside = omega arith; rest = rw sub-zero })
+loop-holds c = let z : c .before .before .args .n + 1 - 1 ≡ c .before .before .args .n = omega arith in (omega arith, omega arith, record { inside = omega arith; rest = rw z })
 
-mul-trainee-end : tie.Need-mul-trainee-end Inv-loop μ-loop
-mul-trainee-end c = omega arith
-
-add-trainee-end : tie.Need-add-trainee-end Inv-loop μ-loop
-add-trainee-end c = omega arith
+trainee-at-requires : tie.Need-trainee-at-requires Inv-loop μ-loop
+trainee-at-requires c κs = omega arith
 
 trainee-end-requires : tie.Need-trainee-end-requires Inv-loop μ-loop
 trainee-end-requires c κs = omega arith
@@ -35,30 +33,33 @@ enum-told c = search needs
 
 returns : tie.Need-returns Inv-loop μ-loop
 returns c =
-    let a = c .before .before .before .before .before .before .before .args in
-    let l = c .before .before .before .before .loop in
-    walk-wrong (traineeFrom (a .m)) size 2 (a .heads .now) (a .entries .now) _ (3 + 2 * l .k) (l .s) (a .n - l .k) (l .inv .1) (a .n - (l .k + 1)) (omega arith) (c .enum-told .given .1) (c .before .before .trainee-end .ensures)
+    let a = c .before .before .before .before .before .before .before .before .args in
+    let l = c .before .before .before .before .before .loop in
+    walk-wrong (traineeFrom (a .m)) size 2 (a .heads .now) (a .entries .now) _ (traineeStart (l .i)) (l .s) (a .n + 1 - l .i) (l .inv .2) _ (c .before .before .before .trainee-at .ensures) (a .n - l .i) (omega arith) (c .enum-told .given .1) (c .before .before .trainee-end .ensures)
 
 enum-known-t : tie.Need-enum-known-t Inv-loop μ-loop
 enum-known-t c = search needs
 
-add-k : tie.Need-add-k Inv-loop μ-loop
-add-k c = omega arith
+add-i : tie.Need-add-i Inv-loop μ-loop
+add-i c = omega arith
 
 loop-less : tie.Need-loop-less Inv-loop μ-loop
 loop-less c = omega arith
 
 loop-again : tie.Need-loop-again Inv-loop μ-loop
 loop-again c =
-    let a = c .before .before .before .before .before .before .before .before .args in
-    let l = c .before .before .before .before .before .loop in
-    (omega arith, walk-on (traineeFrom (a .m)) size 2 (a .heads .now) (a .entries .now) _ (3 + 2 * l .k) (l .s) (a .n - l .k) (l .inv .1) (3 + 2 * (l .k + 1)) (a .n - (l .k + 1)) (omega arith) (omega arith) (c .before .t .given .1) (c .before .before .before .trainee-end .ensures))
+    let a = c .before .before .before .before .before .before .before .before .before .args in
+    let l = c .before .before .before .before .before .before .loop in (
+      omega arith,
+      omega arith,
+      walk-on (traineeFrom (a .m)) size 2 (a .heads .now) (a .entries .now) _ (traineeStart (l .i)) (l .s) (a .n + 1 - l .i) (l .inv .2) _ (c .before .before .before .before .trainee-at .ensures) (traineeStart (l .i + 1)) (a .n + 1 - (l .i + 1)) (omega arith) (omega arith) (c .before .t .given .1) (c .before .before .before .trainee-end .ensures),
+    )
 
 returns-2 : tie.Need-returns-2 Inv-loop μ-loop
 returns-2 c =
     let a = c .before .before .before .before .args in
     let l = c .before .loop in
-    walk-done (traineeFrom (a .m)) size 2 (a .heads .now) (a .entries .now) _ (3 + 2 * l .k) (l .s) (a .n - l .k) (l .inv .1) (omega arith)
+    walk-done (traineeFrom (a .m)) size 2 (a .heads .now) (a .entries .now) _ (traineeStart (l .i)) (l .s) (a .n + 1 - l .i) (l .inv .2) (omega arith)
 
 pub trainees-end-spec : {M : Type 1} → statement M
 trainees-end-spec =
@@ -67,13 +68,12 @@ trainees-end-spec =
     Inv-loop
     μ-loop
     loop-holds
-    mul-trainee-end
-    add-trainee-end
+    trainee-at-requires
     trainee-end-requires
     enum-told
     returns
     enum-known-t
-    add-k
+    add-i
     loop-less
     loop-again
     returns-2)
