@@ -7,3 +7,4 @@ pub mod Entries
 pub mod Walk
 pub mod Seen
 pub mod Lines
+pub mod Receipts

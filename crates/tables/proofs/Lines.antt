@@ -151,11 +151,11 @@ module _ {A B : Type 0} (f : ℕ → A → Received B) (own : OwnLine f) where
 
 -- ---- the cells say what is missing
 
-abbrev none? : {A : Type 0} → Option A → Bool
+abbrev pub none? : {A : Type 0} → Option A → Bool
 none? none = true
 none? (some a) = false
 
-list-cell : (hi at : ℕ) (h e : List ℕ) (l : Option (List ℕ)) → hi ≤ 256 → ListSeen hi at h e l → eqb (getD h (at + 1) 0) missingCell ≡ none? l
+pub list-cell : (hi at : ℕ) (h e : List ℕ) (l : Option (List ℕ)) → hi ≤ 256 → ListSeen hi at h e l → eqb (getD h (at + 1) 0) missingCell ≡ none? l
 unfolding lengthCell
 list-cell hi at h e l few s = go l (s .back .legal) (s .back .cell)
   where

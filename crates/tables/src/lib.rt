@@ -1,4 +1,6 @@
 // The lent tables: what their cells hold, and what can be read from them.
+use meaning::Receipt;
+use meaning::Refusal;
 ghost use mathlib.Core.Path.{_≡_};
 ghost use mathlib.Core.Bool.{not, false};
 ghost use mathlib.Core.Option.{some};
@@ -8,9 +10,9 @@ ghost use lib.ListN.{length, getD, drop};
 ghost use Rattle.meaning.specs.Numbers.{_&_};
 ghost use Rattle.meaning.specs.Lists.{weigh};
 ghost use Rattle.meaning.specs.Placement.{size, depotSize};
-ghost use Rattle.tables.specs.Cells.{traineeStart, depotStart, HeadRoom};
+ghost use Rattle.tables.specs.Cells.{traineeStart, depotStart, part, HeadRoom};
 ghost use Rattle.tables.specs.Decode.{within, goodEntries, listFrom, postsFrom, traineeFrom, depotFrom, orderFrom, traineesFrom, depotsFrom, ordersFrom, limits, Sides, listsFrom, sidesOf, fewOrdersOf, placementOf};
-ghost use Rattle.tables.specs.Answers.{fullSides, lackingLine};
+ghost use Rattle.tables.specs.Answers.{sized, fullSides, lackingLine, saidBy, receiptOf, traineeList, traineeReceipt};
 ghost use Rattle.tables.specs.Walk.{isSome, endOf, Ends, firstLine, traineeLacks, depotLacks};
 
 // A length or posts not received.
@@ -86,6 +88,16 @@ pub fn entry_of(list: &[u16], p: usize) -> usize
     ensures { λ r. ⌜ r ≡ getD (now (list .entry)) p 0 ⌝ }
 {
     cell(list, p)
+}
+
+// The list whose cells stand at `at`, as the part of the entries that holds it.
+pub fn list_at<'a>(heads: &[u16], entries: &'a [u16], at: usize) -> &'a [u16]
+    requires { ⌜ (at + 1 < length (now heads)) × (getD (now heads) at 0 + getD (now heads) (at + 1) 0 ≤ length (now entries)) ⌝ }
+    ensures { λ r. ⌜ now r ≡ part (now (heads .entry)) (now (entries .entry)) at ⌝ }
+{
+    let start = start_of(heads, at);
+    let end = start + length_of(heads, at);
+    &entries[start..end]
 }
 
 // Where the entries of one list, or of several, end; or no reader could have filled the cells.
@@ -389,4 +401,59 @@ pub fn first_missing_line(heads: &[u16]) -> u16
         return first as u16;
     }
     missing_depot(heads, n, depots_of(heads)) as u16
+}
+
+// Whether each lent table has its full size: number 1 is given back where one has not.
+pub fn sizes_ok(heads: &[u16], entries: &[u16], orders: &[u16]) -> bool
+    ensures { λ r. ⌜ r ≡ sized (now (heads .entry)) (now (entries .entry)) (now (orders .entry)) ⌝ }
+{
+    if heads.len() < 707 {
+        return false;
+    }
+    if entries.len() < 8192 {
+        return false;
+    }
+    3073 <= orders.len()
+}
+
+// What tells an empty list from none, for heads that hold a placement's, whatever the entries beside them.
+fn receipt_in(heads: &[u16], i: usize) -> Receipt
+    requires { ⌜ HeadRoom (now heads) ⌝ }
+    ensures { λ r. ⌜ ((e : List ℕ) (b : Sides) → sidesOf (now (heads .entry)) e ≡ some b → r ≡ receiptOf (saidBy (b .trainees) i)) ⌝ }
+{
+    if i < 1 {
+        return Receipt::OutOfRange;
+    }
+    if trainees_of(heads) < i {
+        return Receipt::OutOfRange;
+    }
+    if length_of(heads, trainee_at(i)) == NOT_RECEIVED {
+        return Receipt::NotReceived;
+    }
+    Receipt::Received
+}
+
+// Whether trainee i's list was received, or why that can't be said.
+pub fn trainee_receipt(heads: &[u16], entries: &[u16], orders: &[u16], i: usize) -> Receipt
+    ensures { λ r. ⌜ r ≡ traineeReceipt (now (heads .entry)) (now (entries .entry)) (now (orders .entry)) i ⌝ }
+{
+    if !sizes_ok(heads, entries, orders) {
+        return Receipt::Refused(Refusal { number: 1, line: 0 });
+    }
+    if !used_cells_ok(heads, entries, orders) {
+        return Receipt::Refused(Refusal { number: 8, line: 0 });
+    }
+    receipt_in(heads, i)
+}
+
+// Trainee i's list, as the part of the lent entries that holds it; the empty part where the receipt is not that it was received.
+pub fn trainee_list<'a>(heads: &[u16], entries: &'a [u16], orders: &[u16], i: usize) -> &'a [u16]
+    ensures { λ r. ⌜ now r ≡ traineeList (now (heads .entry)) (now (entries .entry)) (now (orders .entry)) i ⌝ }
+{
+    let receipt = trainee_receipt(heads, entries, orders, i);
+    if let Receipt::Received = receipt {
+        list_at(heads, entries, trainee_at(i))
+    } else {
+        &entries[0..0]
+    }
 }
