@@ -7,9 +7,12 @@ pub mod Sound
 pub mod Counting
 pub mod Complete
 pub mod Answers
+pub mod Full
 pub mod Left
 pub mod Matchings
 pub mod Records
 pub mod Sweeping
 pub mod Visits
 pub mod Endings
+pub mod Solver
+pub mod Checker

@@ -1,17 +1,20 @@
 -- When a ruling is true (demand 3): its table is the best respecting matching or there is none, and what it strikes is in none.
 -- Assumes nothing.
-use Prim.Native.Nat.{ℕ, _≤_, _<_}
+use Prim.Native.Nat.{ℕ, _+_, _≤_, _<_}
 use mathlib.Core.Path.{_≡_}
 use mathlib.Core.Bool.{true, false}
 use mathlib.Core.List.{List, _∷_, _++_}
+use lib.ListN.{length}
 use Rattle.meaning.specs.Numbers.{In}
 use Rattle.meaning.specs.Lists.{Each}
 use Rattle.meaning.specs.Placement.{Order, depot}
 use Rattle.meaning.specs.Market.{Market, Standing, Table, Respecting}
-use Rattle.meaning.specs.Strikes.{Struck}
-use Rattle.meaning.specs.Endings.{Outcome, placed-by, none-held, none-room, tableOf, leftOf, broken?, room?}
+use Rattle.meaning.specs.Strikes.{Struck, nothing, allowedStrike, struck, AllowedFrom}
+use Rattle.meaning.specs.Endings.{Outcome, placed-by, none-held, none-room, tableOf, leftOf, broken?, room?, outcomeFits}
 use Rattle.meaning.specs.Solver.{WholeRuling}
 use Rattle.meaning.specs.declared.Strike.{Strike}
+use Rattle.meaning.specs.declared.Checked.{Checked}
+use Rattle.meaning.specs.declared.Checked.the-variants.{Accepted, NotAllowed}
 
 -- a respecting matching, and no other is better for any trainee: whoever has a depot in another has one here, that one or a higher one
 pub record BestTable (K : Market) (O : Standing) (L : Table) : Type 0 where
@@ -60,3 +63,17 @@ abbrev pub FirstNamed : Market → (ℕ → List ℕ) → List Order → Struck 
 FirstNamed K lists os S (placed-by l) = Each (λ o. broken? K S o ≡ false) os
 FirstNamed K lists os S (none-held i j) = FirstBroken K S os i j
 FirstNamed K lists os S (none-room i j) = FirstRoom K S (leftOf K lists S) i j
+
+-- ---- what the checker's answer says, from a step on
+
+module _ (K : Market) (lists : ℕ → List ℕ) (O : Standing) (os : List Order) (e : Outcome) where
+  -- after the record in hand, the steps before k are allowed in turn and k isn't: a strike, or the ending after the last
+  pub data FirstWrong (rec : List Strike) (step : ℕ) : List Strike → ℕ → Type 0 where
+    wrong-strike : (front : List Strike) (x : Strike) (after : List Strike) → AllowedFrom K O nothing rec front
+        → allowedStrike K O (struck nothing (rec ++ front)) x ≡ false → FirstWrong rec step (front ++ (x ∷ after)) (step + length front)
+    wrong-ending : (xs : List Strike) → AllowedFrom K O nothing rec xs → outcomeFits K lists O os (struck nothing (rec ++ xs)) e ≡ false
+        → FirstWrong rec step xs (step + length xs)
+
+  pub data Checks (rec : List Strike) (step : ℕ) (xs : List Strike) : Checked → Type 0 where
+    accepted : AllowedFrom K O nothing rec xs → outcomeFits K lists O os (struck nothing (rec ++ xs)) e ≡ true → Checks rec step xs Accepted
+    not-allowed : (k : ℕ) → FirstWrong rec step xs k → Checks rec step xs (NotAllowed k)
