@@ -16,3 +16,6 @@ pub mod Visits
 pub mod Endings
 pub mod Solver
 pub mod Checker
+pub mod Existence
+pub mod Stability
+pub mod Paper

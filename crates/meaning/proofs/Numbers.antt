@@ -11,6 +11,7 @@ use lib.Dec.{leb, eqb}
 use borrow.Author.Tests.{leb-true, leb-false, eqb-true, eqb-false, eq-eqb, ne-eqb}
 use Rattle.meaning.specs.Numbers.{In, all, bit, sum, count, firstFrom, smallest}
 use Rattle.meaning.proofs.Booleans.{true-or-false, never}
+use Rattle.meaning.proofs.Lists.{at}
 
 -- ---- In
 
@@ -120,6 +121,30 @@ count-but-one n f g w r h =
         (λ q. rw (eq-eqb w k (sym q)) (omega (arith, bit-le (f k) true (λ _. refl))))
         (λ nq. omega (arith, bit-le (f k) (g k) (λ t. h k i t nq)))
         (same k w)
+
+pub count-cong : (n : ℕ) (f g : ℕ → Bool) → ((k : ℕ) → In n k → f k ≡ g k) → count n f ≡ count n g
+unfolding count
+count-cong n f g h = sum-cong n _ _ (λ k i. ap bit (h k i))
+
+-- one number is met at most once
+pub count-one : (n x : ℕ) → count n (λ k. eqb x k) ≤ 1
+unfolding count
+count-one n x = ⊎-elim
+    (λ (l : x ≤ 0). omega (arith, sum-out n x (λ (i : In n x). omega arith)))
+    (λ (l : 0 < x). ⊎-elim
+    (λ (u : x ≤ n). omega (arith, sum-in n x (record { low = l; high = u })))
+    (λ (u : n < x). omega (arith, sum-out n x (λ (i : In n x). omega arith)))
+    (order x n))
+    (order x 0)
+
+-- two that pass are counted twice
+pub count-two : (n : ℕ) (f : ℕ → Bool) (a b : ℕ) → In n a → In n b → f a ≡ true → f b ≡ true → (a ≡ b → ⊥) → 2 ≤ count n f
+count-two n f a b ra rb ta tb ne =
+    omega (
+      arith,
+      count-less n (λ _. false) (eqb a) (λ k _ t. absurd (false≢true t)) a ra refl (eq-eqb a a refl),
+      count-less n (eqb a) f (λ k _ t. subst (λ x. f x ≡ true) (eqb-true a k t) ta) b rb (ne-eqb a b ne) tb,
+    )
 
 pub count-none : (n : ℕ) (f : ℕ → Bool) → ((k : ℕ) → In n k → f k ≡ false) → count n f ≡ 0
 unfolding count

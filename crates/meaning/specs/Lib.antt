@@ -11,3 +11,4 @@ pub mod Solver
 pub mod Checker
 pub mod Stability
 pub mod Truth
+pub mod Paper
