@@ -3,4 +3,5 @@ pub mod Digits
 pub mod Marking
 pub mod FirstPlace
 pub mod Numbers
+pub mod Filling
 pub mod Coded
