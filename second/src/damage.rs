@@ -34,8 +34,8 @@ fn once(random: &mut Random, text: Vec<u8>) -> Vec<u8> {
         6 => went_on(random, text),
         7..=10 => lines_moved(random, text),
         11..=14 => field_changed(random, text),
-        15..=17 => fields_moved(random, text),
-        18 => list_grown(random, text),
+        15..=16 => fields_moved(random, text),
+        17..=18 => list_grown(random, text),
         _ => text_at_limit(random, text),
     }
 }
@@ -119,7 +119,7 @@ fn lines_moved(random: &mut Random, text: Vec<u8>) -> Vec<u8> {
     lines.concat()
 }
 
-/// The fields of each line, for a change; the change is told which line to spoil.
+/// A text with a change to the fields of one line.
 fn with_fields(
     random: &mut Random,
     text: &[u8],
@@ -139,25 +139,22 @@ fn with_fields(
     lines.join(&b'\n')
 }
 
-/// A field is another: at or past a limit, of wrong form, or one off.
+/// A field is another: one off, one of its line, at or past a limit, or of wrong form.
 fn field_changed(random: &mut Random, text: Vec<u8>) -> Vec<u8> {
     with_fields(random, &text, |random, fields| {
         let at = random.below(fields.len());
-        let number = std::str::from_utf8(&fields[at])
-            .ok()
-            .and_then(|field| field.parse::<usize>().ok());
-        fields[at] = match number {
-            Some(number) if random.percent(40) => {
-                let other = if random.percent(50) {
-                    number + 1
-                } else {
-                    number.saturating_sub(1)
-                };
-                other.to_string().into_bytes()
-            }
+        fields[at] = match (number_of(&fields[at]), random.below(4)) {
+            (Some(number), 0) => (number + 1).to_string().into_bytes(),
+            (Some(number), 1) => number.saturating_sub(1).to_string().into_bytes(),
+            (_, 2) => random.pick(fields).clone(),
             _ => random.pick(&FIELDS).as_bytes().to_vec(),
         };
     })
+}
+
+/// The number that a field says.
+fn number_of(field: &[u8]) -> Option<usize> {
+    std::str::from_utf8(field).ok()?.parse().ok()
 }
 
 /// Fields dropped, doubled, swapped or added.
@@ -182,10 +179,7 @@ fn fields_moved(random: &mut Random, text: Vec<u8>) -> Vec<u8> {
 fn list_grown(random: &mut Random, text: Vec<u8>) -> Vec<u8> {
     with_fields(random, &text, |random, fields| {
         let length = if fields[0] == b"D" { 3 } else { 2 };
-        let Some(number) = fields
-            .get(length)
-            .and_then(|field| std::str::from_utf8(field).ok()?.parse::<usize>().ok())
-        else {
+        let Some(number) = fields.get(length).and_then(|field| number_of(field)) else {
             return;
         };
         fields[length] = (number + 1).to_string().into_bytes();

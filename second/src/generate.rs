@@ -18,12 +18,12 @@ struct Shape {
     missing: usize,
 }
 
-/// A placement of a shape that is drawn too; one in some hundreds is of full size.
+/// A placement of a shape that is drawn too; one in fifty is of full size.
 pub fn any(random: &mut Random) -> Placement {
     match random.below(400) {
-        0 => full_size(random),
-        1 => full_orders(random),
-        2..=99 => tiny(random),
+        0..=3 => full_size(random),
+        4..=7 => full_orders(random),
+        8..=99 => tiny(random),
         100..=199 => tiny_missing(random),
         200..=239 => no_posts(random),
         240..=299 => one_sided(random),

@@ -71,6 +71,8 @@ fn solved(placement: &Placement, random: &mut Random, counts: &mut Counts) -> Re
         check(placement, &ruling) == accepted,
         "the checker turns the solver's ruling down",
     )?;
+    lowest_reasons(placement, &ruling)?;
+    first_ending(placement, &small, &ruling)?;
     for _ in 0..4 {
         let other = altered(random, &ruling, placement.depots.len());
         if check(placement, &other) == accepted {
@@ -115,6 +117,51 @@ fn true_ruling(small: &Small, respecting: &[Vec<usize>], ruling: &Ruling) -> Res
         })
     });
     expect(best, "another respecting matching is better for a trainee")
+}
+
+/// Each strike has the lowest reason and the smallest witness that the checker allows there.
+fn lowest_reasons(placement: &Placement, ruling: &Ruling) -> Result<(), String> {
+    let elsewhere = (1..=placement.depots.len()).map(Reason::HeldElsewhere);
+    let passed = (1..=ruling.n).map(Reason::Passed);
+    let mut reasons = vec![Reason::Barred];
+    reasons.extend(elsewhere.chain([Reason::PostsGone]).chain(passed));
+    for (at, strike) in ruling.strikes.iter().enumerate() {
+        let lowest = reasons.iter().find(|&&reason| {
+            let mut other = ruling.clone();
+            other.strikes.truncate(at + 1);
+            other.strikes[at].reason = reason;
+            check(placement, &other) != Ok(Checked::NotAllowed(at + 1))
+        });
+        let said = Some(&strike.reason);
+        expect(
+            lowest == said,
+            "a strike has a lower reason or a smaller witness",
+        )?;
+    }
+    Ok(())
+}
+
+/// The ending is the first that the checker allows: a held pair in file order, the table, the smallest depot and then trainee.
+fn first_ending(placement: &Placement, small: &Small, ruling: &Ruling) -> Result<(), String> {
+    let held = placement
+        .orders
+        .iter()
+        .filter(|order| order.kind == Kind::Held);
+    let held = held.map(|order| Ending::NoneHeld(order.trainee, order.depot));
+    let placed = small.tables().into_iter().map(Ending::Placed);
+    let mut endings: Vec<Ending> = held.chain(placed).collect();
+    for depot in 1..=placement.depots.len() {
+        endings.extend((1..=ruling.n).map(|trainee| Ending::NoneRoom(trainee, depot)));
+    }
+    let first = endings.into_iter().find(|ending| {
+        let mut other = ruling.clone();
+        other.ending = ending.clone();
+        check(placement, &other) == Ok(Checked::Accepted)
+    });
+    expect(
+        first.as_ref() == Some(&ruling.ending),
+        "another ending comes first",
+    )
 }
 
 /// What the stability test names is so, and nothing comes before it.

@@ -54,7 +54,7 @@ pub fn number_at(table: &[usize], depot: usize) -> usize {
     table.iter().filter(|&&other| other == depot).count()
 }
 
-/// Whether a mutual pair blocks a table of mutual pairs.
+/// Whether a mutual pair blocks a table of mutual pairs; a pair of the table doesn't, since no depot is above itself.
 fn blocks(market: &Market, table: &[usize], trainee: usize, depot: usize) -> bool {
     let own = table[trainee - 1];
     let gains = own == 0 || market.wishes_above(trainee, own).contains(&depot);
@@ -63,5 +63,5 @@ fn blocks(market: &Market, table: &[usize], trainee: usize, depot: usize) -> boo
     let has_worse = ranking[better + 1..]
         .iter()
         .any(|&other| table[other - 1] == depot);
-    own != depot && gains && (number_at(table, depot) < market.posts(depot) || has_worse)
+    gains && (number_at(table, depot) < market.posts(depot) || has_worse)
 }

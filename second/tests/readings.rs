@@ -1,8 +1,10 @@
-//! The points that document 01 leaves open, as the team reads them: reading a placement.
+//! The points that document 01 leaves open, as they are read here: reading a placement, and the solver.
 
 mod common;
 use common::{bytes, placement, placement_refused, prints};
+use second::model::Placement;
 use second::placement_text;
+use second::solver::solve;
 
 /// Digits: form before range.
 #[test]
@@ -157,6 +159,24 @@ fn smallest_witness() {
     );
 }
 
+/// The smallest depot at which a trainee is held elsewhere, whichever order stands first.
+#[test]
+fn smallest_hold() {
+    prints(
+        "placement 1 1 3/T 1 3 1 2 3/D 1 1 1 1/D 2 1 1 1/D 3 1 1 1/F 1 3/F 1 2/end/",
+        "ruling 1 1 3/S 1 1 2 2/S 1 2 2 3/S 1 3 2 2/N 1 1 3/end/",
+    );
+}
+
+/// A None of kind 2 names the smallest depot, and then the smallest trainee.
+#[test]
+fn smallest_depot() {
+    prints(
+        "placement 1 2 2/T 1 1 2/T 2 1 1/D 1 1 1 2/D 2 1 1 1/X 1 2/X 2 1/end/",
+        "ruling 1 2 2/S 1 2 1 0/S 2 1 1 0/N 2 2 1/end/",
+    );
+}
+
 /// A witness of reason 2 may be a stranger, also where the trainee is held here too.
 #[test]
 fn held_at_a_stranger() {
@@ -173,6 +193,28 @@ fn counts_the_struck() {
         "placement 1 2 1/T 1 1 1/T 2 1 1/D 1 1 2 1 2/X 1 1/end/",
         "ruling 1 2 2/S 1 1 1 0/S 2 1 3 0/N 2 1 1/end/",
     );
+}
+
+/// What no reader could have read is not written and not solved.
+#[test]
+fn not_written() {
+    let sound = placement("placement 1 2 2/T 1 2 1 2/T 2 ?/D 1 1 0/D 2 ? 1 1/F 1 1/end/");
+    let spoils: [fn(&mut Placement); 8] = [
+        |wrong| wrong.trainees[0] = Some(vec![1, 1]),
+        |wrong| wrong.trainees[0] = Some(vec![0]),
+        |wrong| wrong.trainees[0] = Some(vec![3]),
+        |wrong| wrong.trainees.resize(257, None),
+        |wrong| wrong.depots.resize(65, wrong.depots[0].clone()),
+        |wrong| wrong.depots[0].posts = Some(257),
+        |wrong| wrong.orders[0].depot = 3,
+        |wrong| wrong.orders.resize(1025, wrong.orders[0]),
+    ];
+    for spoil in spoils {
+        let mut wrong = sound.clone();
+        spoil(&mut wrong);
+        assert_eq!(placement_text::write(&wrong), Err(common::at(8, 0)));
+        assert_eq!(solve(&wrong), Err(common::at(8, 0)));
+    }
 }
 
 /// What is missing is named by its line, trainees first, also where it could not matter.

@@ -1,4 +1,4 @@
-//! The ruling text, the checker and the stability test, as document 01 says and the team reads it.
+//! The ruling text, the checker and the stability test, as document 01 says.
 
 mod common;
 use common::{at, placement, ruling, ruling_refused};
@@ -80,6 +80,16 @@ fn any_order() {
     assert_eq!(check(&whole, &short), Ok(Checked::Accepted));
     let far = ruling("ruling 1 3 1/S 1 64 3 0/A 1 2/A 2 1/A 3 0/end/");
     assert_eq!(check(&whole, &far), Ok(Checked::NotAllowed(1)));
+}
+
+/// A pair is not struck because its trainee is held at this very depot.
+#[test]
+fn held_here() {
+    let held = placement("placement 1 1 2/T 1 2 1 2/D 1 1 1 1/D 2 1 1 1/F 1 1/end/");
+    let here = ruling("ruling 1 1 1/S 1 1 2 1/N 1 1 1/end/");
+    assert_eq!(check(&held, &here), Ok(Checked::NotAllowed(1)));
+    let elsewhere = ruling("ruling 1 1 1/S 1 2 2 1/A 1 1/end/");
+    assert_eq!(check(&held, &elsewhere), Ok(Checked::Accepted));
 }
 
 /// An ending that doesn't fit is the step after the strikes.
