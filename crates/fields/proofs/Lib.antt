@@ -1,0 +1,6 @@
+-- The laws that both round trips rest on.
+pub mod Tests
+pub mod Digits
+pub mod Steps
+pub mod Words
+pub mod Lines

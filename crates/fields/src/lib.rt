@@ -1,0 +1,1 @@
+// The leaves of both texts.
