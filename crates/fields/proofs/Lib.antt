@@ -4,3 +4,5 @@ pub mod Digits
 pub mod Steps
 pub mod Words
 pub mod Lines
+pub mod Positions
+pub mod Puts

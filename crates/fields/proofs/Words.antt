@@ -12,7 +12,7 @@ use Rattle.meaning.specs.Numbers.{_&_}
 use Rattle.meaning.specs.Lists.{Each, each-none, each-more}
 use Rattle.fields.specs.Bytes.{TAB, LF, stop?, wordOf, restOf, same}
 use Rattle.fields.specs.Number.{digits, digitsOf, numberOf}
-use Rattle.fields.specs.Reader.{got, first, field, lineEnd, keyword, formed, figure, number, running, unless}
+use Rattle.fields.specs.Reader.{got, first, field, lineEnd, keyword, figure, number, running, unless}
 use Rattle.fields.specs.Writer.{writeNumber}
 use Rattle.fields.proofs.Tests.{true-or-false, below-or-not, and-left, and-right, and-intro}
 use Rattle.fields.proofs.Digits.{digits-small, digits-large, digits-read, read-digits}

@@ -3,3 +3,4 @@ pub mod Bytes
 pub mod Number
 pub mod Reader
 pub mod Writer
+pub mod Leaves
