@@ -1,6 +1,8 @@
 -- How a text is cut: lines end in byte 10, fields are parted by byte 9 (document 01, "The two texts").
 -- Assumes nothing.
 use Prim.Native.Nat.{ℕ}
+use Prim.Native.Char.{code}
+use Prim.Native.String.{String, [] as nothing, _∷_ as _before_}
 use mathlib.Core.Bool.{Bool, true, false}
 use mathlib.Core.List.{List, [], _∷_}
 use lib.Dec.{eqb}
@@ -11,6 +13,15 @@ TAB = 9
 
 abbrev pub LF : ℕ
 LF = 10
+
+-- the bytes of a word as it is spelled
+abbrev pub bytesOf : String → List ℕ
+bytesOf nothing = []
+bytesOf (c before s) = code c ∷ bytesOf s
+
+-- the word of the last line of both texts
+abbrev pub word-end : List ℕ
+word-end = bytesOf "end"
 
 -- a byte that parts two fields or ends a line
 unfoldable pub stop? : ℕ → Bool

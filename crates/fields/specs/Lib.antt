@@ -4,3 +4,4 @@ pub mod Number
 pub mod Reader
 pub mod Writer
 pub mod Leaves
+pub mod Shown
