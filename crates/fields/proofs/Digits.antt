@@ -12,9 +12,13 @@ use lib.Dec.{leb, eqb}
 use borrow.Author.Tests.{leb-true, eqb-false, lt-ltb, le-ltb, le-leb, ne-eqb, not-true}
 use Rattle.meaning.specs.Numbers.{_&_}
 use Rattle.fields.specs.Number.{digits, digitsOf, digit?, value, leads, numberOf}
-use Rattle.fields.proofs.Tests.{true-or-false, below-or-not, and-left, and-right, and-intro}
+use Rattle.meaning.proofs.Numbers.{order}
+use Rattle.meaning.proofs.Booleans.{true-or-false, and-left, and-right, and-intro}
 
 -- ---- the digits
+
+pub one-or-more : (v : ℕ) → (v < 10) ⊎ (10 ≤ v)
+one-or-more v = ⊎-elim inr inl (order 10 v)
 
 pub digits-small : (k v : ℕ) → v < 10 → digits k v ≡ (48 + v) ∷ []
 unfolding digits
@@ -28,7 +32,7 @@ digits-large k v h = rw (le-ltb v 10 h, digits)
 pub digits-fuel : (k j v : ℕ) → v ≤ k → v ≤ j → digits k v ≡ digits j v
 digits-fuel zero j v h g = digits-small zero v (omega arith) ∙ sym (digits-small j v (omega arith))
 digits-fuel (suc k) zero v h g = digits-small (suc k) v (omega arith) ∙ sym (digits-small zero v (omega arith))
-digits-fuel (suc k) (suc j) v h g = go (below-or-not v 10) (λ a b. digits-fuel k j (v / 10) a b)
+digits-fuel (suc k) (suc j) v h g = go (one-or-more v) (λ a b. digits-fuel k j (v / 10) a b)
   where
     go : (v < 10) ⊎ (10 ≤ v) → (v / 10 ≤ k → v / 10 ≤ j → digits k (v / 10) ≡ digits j (v / 10)) → digits (suc k) v ≡ digits (suc j) v
     go (inl l) ih = digits-small (suc k) v l ∙ sym (digits-small (suc j) v l)
@@ -67,7 +71,7 @@ value-cons v d w h =
 
 value-after-digits : (k v : ℕ) (r : List ℕ) → v ≤ k → value 0 (digits k v ++ r) ≡ value v r
 value-after-digits zero v r h = rw (digits-small zero v (omega arith)) (value-cons 0 v r (omega arith) ∙ ap (λ x. value x r) (omega arith))
-value-after-digits (suc k) v r h = go (below-or-not v 10) (λ a. value-after-digits k (v / 10) ((48 + v % 10) ∷ r) a)
+value-after-digits (suc k) v r h = go (one-or-more v) (λ a. value-after-digits k (v / 10) ((48 + v % 10) ∷ r) a)
   where
     go : (v < 10) ⊎ (10 ≤ v)
         → (v / 10 ≤ k → value 0 (digits k (v / 10) ++ (48 + v % 10) ∷ r) ≡ value (v / 10) ((48 + v % 10) ∷ r))
@@ -98,7 +102,7 @@ opens-append _ r (opens b w h) = opens b (w ++ r) h
 
 digits-open : (k v : ℕ) → 1 ≤ v → v ≤ k → Opens (digits k v)
 digits-open zero v h g = absurd (omega arith)
-digits-open (suc k) v h g = go (below-or-not v 10) (λ a b. digits-open k (v / 10) a b)
+digits-open (suc k) v h g = go (one-or-more v) (λ a b. digits-open k (v / 10) a b)
   where
     go : (v < 10) ⊎ (10 ≤ v) → (1 ≤ v / 10 → v / 10 ≤ k → Opens (digits k (v / 10))) → Opens (digits (suc k) v)
     go (inl l) ih = rw (digits-small (suc k) v l) (opens (48 + v) [] (λ e. omega arith))
@@ -109,7 +113,7 @@ unfolding digitsOf leads
 digits-lead v = ⊎-elim
     (λ (l : v < 10). rw (digits-small v v l))
     (λ (l : 10 ≤ v). opening-leads (digits v v) (digits-open v v (omega arith) (omega arith)))
-    (below-or-not v 10)
+    (one-or-more v)
 
 -- ---- how many
 
@@ -126,7 +130,7 @@ digits-at-most (suc k) v h = ⊎-elim
     (λ (l : 10 ≤ v).
     rw (digits-fuel v (suc v) v (omega arith) (omega arith), digits-large v v l, length-append, digits-fuel v (v / 10) (v / 10) (omega arith) (omega arith))
     (omega (arith, digits-at-most k (v / 10) (omega arith))))
-    (below-or-not v 10)
+    (one-or-more v)
 
 pub three-digits : (v : ℕ) → v < 1000 → length (digitsOf v) ≤ 3
 unfolding tenTo

@@ -1,5 +1,4 @@
 -- The laws that both round trips rest on.
-pub mod Tests
 pub mod Digits
 pub mod Steps
 pub mod Words

@@ -3,7 +3,7 @@
 use Prim.Native.Nat.{ℕ, zero, suc, _+_, _-_, _*_, _≤_, _<_}
 use mathlib.Core.Path.{_≡_, refl, sym, ap, ap₂, _∙_}
 use mathlib.Core.Logic.{_⊎_, inl, inr, ⊎-elim}
-use mathlib.Core.Bool.{true, false, not}
+use mathlib.Core.Bool.{Bool, true, false, not}
 use mathlib.Core.Option.{Option, none, some}
 use mathlib.Core.List.{List, _∷_}
 use native.Mathlib.Omega.{arith}
@@ -19,10 +19,15 @@ use Rattle.fields.specs.Number.{digit?, value, leads, numberOf}
 use Rattle.fields.specs.Reader.{got, refusal, first, field, lineEnd, keyword, figure, number, running, unless}
 use Rattle.fields.specs.Leaves.{numOf}
 use Rattle.fields.specs.declared.Num.the-variants.{Value, Not}
-use Rattle.fields.proofs.Tests.{true-or-false, and-false}
+use Rattle.meaning.proofs.Booleans.{true-or-false}
 use Rattle.fields.proofs.Digits.{tenTo, digit-in}
 use Rattle.fields.proofs.Steps.{unless-there, unless-not, formed-there, formed-not}
 use Rattle.fields.proofs.Words.{word-rest, same-eq}
+
+pub and-false : (a : Bool) → (a & false) ≡ false
+unfolding _&_
+and-false true = refl
+and-false false = refl
 
 pub byte-drop : (s : List ℕ) (i : ℕ) → i < length s → drop i s ≡ getD s i 0 ∷ drop (i + 1) s
 byte-drop s i h = rw (add-one, drop-cons s i 0)

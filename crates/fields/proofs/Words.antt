@@ -14,8 +14,8 @@ use Rattle.fields.specs.Bytes.{TAB, LF, stop?, wordOf, restOf, same}
 use Rattle.fields.specs.Number.{digits, digitsOf, numberOf}
 use Rattle.fields.specs.Reader.{got, first, field, lineEnd, keyword, figure, number, running, unless}
 use Rattle.fields.specs.Writer.{writeNumber}
-use Rattle.fields.proofs.Tests.{true-or-false, below-or-not, and-left, and-right, and-intro}
-use Rattle.fields.proofs.Digits.{digits-small, digits-large, digits-read, read-digits}
+use Rattle.meaning.proofs.Booleans.{true-or-false, and-left, and-right, and-intro}
+use Rattle.fields.proofs.Digits.{one-or-more, digits-small, digits-large, digits-read, read-digits}
 use Rattle.fields.proofs.Steps.{refusal-not-got, went, got-value, got-rest, unless-back, unless-there, formed-back, formed-there}
 
 -- ---- words
@@ -113,7 +113,7 @@ digit-word d h = each-more {x = 48 + d} (rw (ne-eqb (48 + d) 9 (λ e. omega arit
 
 bounded-digits-word : (k v : ℕ) → v ≤ k → Word (digits k v)
 bounded-digits-word zero v h = rw (digits-small zero v (omega arith)) (digit-word v (omega arith))
-bounded-digits-word (suc k) v h = go (below-or-not v 10) (λ a. bounded-digits-word k (v / 10) a)
+bounded-digits-word (suc k) v h = go (one-or-more v) (λ a. bounded-digits-word k (v / 10) a)
   where
     go : (v < 10) ⊎ (10 ≤ v) → (v / 10 ≤ k → Word (digits k (v / 10))) → Word (digits (suc k) v)
     go (inl l) ih = rw (digits-small (suc k) v l) (digit-word v l)

@@ -15,7 +15,6 @@ use Rattle.meaning.specs.Placement.{LegalList, no-list, a-list, size}
 use Rattle.fields.specs.Bytes.{LF}
 use Rattle.fields.specs.Reader.{got, unless, lineEnd, number}
 use Rattle.fields.specs.Writer.{writeNumber}
-use Rattle.fields.proofs.Tests.{not-of-false}
 use Rattle.fields.proofs.Steps.{went, got-value, got-rest, unless-back, unless-there}
 use Rattle.fields.proofs.Words.{stops, end-there, end-back, number-stops, lf-stops, number-there, number-back}
 use Rattle.placement_text.specs.Writer.{writeReceived, writeEntries, writeList}
@@ -35,7 +34,7 @@ entry-there : (k hi : ℕ) (seen : List ℕ) (e : ℕ) (r : List ℕ) → hi < 1
 unfolding entry
 entry-there k hi seen e r h b m t =
     rw (number-there k 1 hi e r (b .low) (b .high) h t)
-    (rw (unless-there 5 k (not (member e seen)) r (not-of-false (member e seen) m)))
+    (rw (unless-there 5 k (not (member e seen)) r (ap not m)))
 
 record Entry (hi : ℕ) (seen s : List ℕ) (e : ℕ) (r : List ℕ) : Type 0 where
   range : In hi e

@@ -14,7 +14,7 @@ use Rattle.meaning.specs.Lists.{each-none, each-more}
 use Rattle.fields.specs.Bytes.{TAB, stop?, same}
 use Rattle.fields.specs.Number.{digitsOf, digit?, value, leads, numberOf}
 use Rattle.fields.specs.Reader.{got, field, formed, unless}
-use Rattle.fields.proofs.Tests.{true-or-false}
+use Rattle.meaning.proofs.Booleans.{true-or-false}
 use Rattle.fields.proofs.Digits.{digits-read, read-digits}
 use Rattle.fields.proofs.Steps.{went, got-value, got-rest, unless-back, unless-there, formed-back, formed-there}
 use Rattle.fields.proofs.Words.{Word, stops, same-eq, same-refl, field-there, field-back, digits-word}

@@ -13,7 +13,7 @@ use Rattle.meaning.specs.Placement.{Kind, held, barred, Order, LegalOrder}
 use Rattle.fields.specs.Bytes.{LF, stop?, wordOf, restOf, same, word-end}
 use Rattle.fields.specs.Reader.{got, next, line, lineEnd, number, atEnd}
 use Rattle.fields.specs.Writer.{writeNumber}
-use Rattle.fields.proofs.Tests.{true-or-false}
+use Rattle.meaning.proofs.Booleans.{true-or-false}
 use Rattle.fields.proofs.Steps.{refusal-not-got, went, got-value, got-rest, on-line}
 use Rattle.fields.proofs.Words.{Word, stops, word-there, rest-there, word-rest, same-eq, end-there, end-back, number-stops, lf-stops, number-there, number-back}
 use Rattle.placement_text.specs.Words.{word-F, word-X, letter}

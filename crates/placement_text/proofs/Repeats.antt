@@ -11,7 +11,7 @@ use borrow.Author.Tests.{eqb-false, ne-eqb}
 use Rattle.meaning.specs.Numbers.{In}
 use Rattle.meaning.specs.Lists.{member, Distinct, distinct-none, distinct-more, Each, each-none, each-more}
 use Rattle.meaning.specs.Placement.{LegalEntries}
-use Rattle.fields.proofs.Tests.{true-or-false}
+use Rattle.meaning.proofs.Booleans.{true-or-false}
 
 pub data Fresh (hi : ℕ) : List ℕ → List ℕ → Type 0 where
   fresh-none : {seen : List ℕ} → Fresh hi seen []

@@ -14,7 +14,7 @@ use Rattle.meaning.specs.Placement.{Placement, LegalList, LegalDepot, Legal, si
 use Rattle.fields.specs.Bytes.{LF, stop?}
 use Rattle.fields.specs.Reader.{Step, got, refusal, line, lineEnd, keyword, number, running, lines}
 use Rattle.fields.specs.Writer.{writeNumber, writeLines}
-use Rattle.fields.proofs.Tests.{true-or-false}
+use Rattle.meaning.proofs.Booleans.{true-or-false}
 use Rattle.fields.proofs.Steps.{went, got-value, got-rest, on-line}
 use Rattle.fields.proofs.Words.{Word, end-there, end-back, keyword-there, keyword-back, number-stops, lf-stops, number-there, number-back, running-there, running-back}
 use Rattle.fields.proofs.Lines.{lines-there, lines-back}
