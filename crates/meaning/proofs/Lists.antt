@@ -4,7 +4,7 @@ use Prim.Native.Nat.{ℕ, zero, suc, _<_}
 use mathlib.Core.Path.{_≡_, refl, sym, ap, _∙_, subst}
 use mathlib.Core.Logic.{_⊎_, inl, inr, ⊎-elim}
 use mathlib.Core.Bool.{Bool, true, false, false≢true}
-use mathlib.Core.List.{List, [], _∷_}
+use mathlib.Core.List.{List, [], _∷_, _++_}
 use native.Mathlib.Omega.{arith}
 use lib.ListN.{getD}
 use lib.Dec.{eqb}
@@ -74,6 +74,10 @@ unfolding place
 each-place [] each-none x h = absurd (omega arith)
 each-place {P} (y ∷ ys) (each-more p ps) x h =
     ⊎-elim (λ (e : y ≡ x). subst P e p) (λ h′. each-place ys ps x h′) (place-cases y ys x h)
+
+pub each-end : {A : Type 0} {P : A → Type 0} {l : List A} {x : A} → Each P l → P x → Each P (l ++ (x ∷ []))
+each-end each-none q = each-more q each-none
+each-end (each-more p ps) q = each-more p (each-end ps q)
 
 -- ---- the element at an index
 

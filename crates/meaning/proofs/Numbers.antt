@@ -11,6 +11,7 @@ use lib.Dec.{leb, eqb}
 use borrow.Author.Tests.{leb-true, leb-false, eqb-true, eqb-false, eq-eqb, ne-eqb}
 use Rattle.meaning.specs.Numbers.{In, all, bit, sum, count, firstFrom, smallest}
 use Rattle.meaning.proofs.Booleans.{true-or-false, never}
+use Rattle.meaning.proofs.Lists.{at}
 
 -- ---- In
 
@@ -121,6 +122,30 @@ count-but-one n f g w r h =
         (λ nq. omega (arith, bit-le (f k) (g k) (λ t. h k i t nq)))
         (same k w)
 
+pub count-cong : (n : ℕ) (f g : ℕ → Bool) → ((k : ℕ) → In n k → f k ≡ g k) → count n f ≡ count n g
+unfolding count
+count-cong n f g h = sum-cong n _ _ (λ k i. ap bit (h k i))
+
+-- one number is met at most once
+pub count-one : (n x : ℕ) → count n (λ k. eqb x k) ≤ 1
+unfolding count
+count-one n x = ⊎-elim
+    (λ (l : x ≤ 0). omega (arith, sum-out n x (λ (i : In n x). omega arith)))
+    (λ (l : 0 < x). ⊎-elim
+    (λ (u : x ≤ n). omega (arith, sum-in n x (record { low = l; high = u })))
+    (λ (u : n < x). omega (arith, sum-out n x (λ (i : In n x). omega arith)))
+    (order x n))
+    (order x 0)
+
+-- two that pass are counted twice
+pub count-two : (n : ℕ) (f : ℕ → Bool) (a b : ℕ) → In n a → In n b → f a ≡ true → f b ≡ true → (a ≡ b → ⊥) → 2 ≤ count n f
+count-two n f a b ra rb ta tb ne =
+    omega (
+      arith,
+      count-less n (λ _. false) (eqb a) (λ k _ t. absurd (false≢true t)) a ra refl (eq-eqb a a refl),
+      count-less n (eqb a) f (λ k _ t. subst (λ x. f x ≡ true) (eqb-true a k t) ta) b rb (ne-eqb a b ne) tb,
+    )
+
 pub count-none : (n : ℕ) (f : ℕ → Bool) → ((k : ℕ) → In n k → f k ≡ false) → count n f ≡ 0
 unfolding count
 count-none n f h = sum-cong n _ (λ _. 0) (λ k i. ap bit (h k i)) ∙ sum-zero n
@@ -129,16 +154,16 @@ count-none n f h = sum-cong n _ (λ _. 0) (λ k i. ap bit (h k i)) ∙ sum-zero 
 
 pub data Find (n : ℕ) (f : ℕ → Bool) : Type 0 where
   found : (k : ℕ) → In n k → f k ≡ true → Find n f
-  nowhere : ((k : ℕ) → In n k → f k ≡ false) → Find n f
+  none-found : ((k : ℕ) → In n k → f k ≡ false) → Find n f
 
 pub find : (n : ℕ) (f : ℕ → Bool) → Find n f
-find zero f = nowhere (λ k i. absurd (none-in i))
+find zero f = none-found (λ k i. absurd (none-in i))
 find (suc n) f = go (true-or-false (f (suc n))) (find n f)
   where
     go : (f (suc n) ≡ true) ⊎ (f (suc n) ≡ false) → Find n f → Find (suc n) f
     go (inl t) w = found (suc n) (last n) t
     go (inr e) (found k i t) = found k (wider n k i) t
-    go (inr e) (nowhere h) = nowhere (λ k i. ⊎-elim (λ q. subst (λ x. f x ≡ false) (sym q) e) (λ r. h k r) (inner n k i))
+    go (inr e) (none-found h) = none-found (λ k i. ⊎-elim (λ q. subst (λ x. f x ≡ false) (sym q) e) (λ r. h k r) (inner n k i))
 
 pub data FindPair (n m : ℕ) (f : ℕ → ℕ → Bool) : Type 0 where
   found-pair : (i j : ℕ) → In n i → In m j → f i j ≡ true → FindPair n m f
@@ -150,8 +175,8 @@ find-pair (suc n) m f = go (find m (f (suc n))) (find-pair n m f)
   where
     go : Find m (f (suc n)) → FindPair n m f → FindPair (suc n) m f
     go (found j r t) w = found-pair (suc n) j (last n) r t
-    go (nowhere h) (found-pair i j r r′ t) = found-pair i j (wider n i r) r′ t
-    go (nowhere h) (no-pair g) =
+    go (none-found h) (found-pair i j r r′ t) = found-pair i j (wider n i r) r′ t
+    go (none-found h) (no-pair g) =
         no-pair (λ i j r r′. ⊎-elim (λ q. subst (λ x. f x j ≡ false) (sym q) (h j r′)) (λ r″. g i j r″ r′) (inner n i r))
 
 -- the one with the greatest g among those of 1 to n that pass f

@@ -11,3 +11,6 @@ pub mod Solver
 pub mod Checker
 pub mod Stability
 pub mod Truth
+pub mod Paper
+pub mod Demands
+pub mod Examples

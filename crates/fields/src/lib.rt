@@ -1,0 +1,240 @@
+// The leaves of both texts: what stands at a position of a text, and bytes put at a position of an output.
+// A field is read from the position of its tab, and every answer says where the reading stopped.
+ghost use mathlib.Core.Path.{_≡_};
+ghost use mathlib.Core.List.{_∷_, []};
+ghost use Prim.Native.Nat.{_+_, _≤_, _<_};
+ghost use lib.ListN.{length, drop};
+ghost use lib.Seq.{slice};
+ghost use Rattle.fields.specs.Bytes.{wordOf, same};
+ghost use Rattle.fields.specs.Number.{value, numberOf, digitsOf};
+ghost use Rattle.fields.specs.Reader.{running, lineEnd};
+ghost use Rattle.fields.specs.Writer.{writeNumber};
+ghost use Rattle.fields.specs.Leaves.{numOf, FigureRead, NumberRead, FoundRead, KeywordRead, Put};
+
+// A word as a number.
+pub enum Num {
+    Value(u32),
+    Not,
+}
+
+// A number in a field, and where it stopped.
+pub enum Figure {
+    Is(u32, usize),
+    Wrong,
+}
+
+// A number of a range, and where it stopped; or the number of the refusal, 3 or 4.
+pub enum Ranged {
+    Is(u16, usize),
+    Not(u16),
+}
+
+// What had to stand there, and where it stopped.
+pub enum Found {
+    To(usize),
+    Wrong,
+}
+
+// Where the word ends that starts at `at`.
+pub fn word_end(s: &[u8], at: usize) -> usize
+    requires { ⌜ at ≤ length (now s) ⌝ }
+    ensures { λ r. ⌜ r ≡ at + length (wordOf (drop at (now (s .entry)))) ⌝ }
+{
+    let mut i = at;
+    while i < s.len() {
+        if s[i] == 9 {
+            return i;
+        }
+        if s[i] == 10 {
+            return i;
+        }
+        i += 1;
+    }
+    i
+}
+
+// The value of at most five digits.
+fn value_in(s: &[u8], from: usize, to: usize) -> Num
+    requires { ⌜ (from ≤ to) × (to ≤ length (now s)) × (to ≤ from + 5) ⌝ }
+    ensures { λ r. ⌜ r ≡ numOf (value 0 (slice from to (now (s .entry)))) ⌝ }
+{
+    let mut v: u32 = 0;
+    let mut i = from;
+    while i < to {
+        let d = s[i];
+        if d < 48 {
+            return Num::Not;
+        }
+        if 57 < d {
+            return Num::Not;
+        }
+        v = v * 10 + (d - 48) as u32;
+        i += 1;
+    }
+    Num::Value(v)
+}
+
+// The number that a word is.
+pub fn number_in(s: &[u8], from: usize, to: usize) -> Num
+    requires { ⌜ (from ≤ to) × (to ≤ length (now s)) ⌝ }
+    ensures { λ r. ⌜ r ≡ numOf (numberOf (slice from to (now (s .entry)))) ⌝ }
+{
+    let n = to - from;
+    if n == 0 {
+        return Num::Not;
+    }
+    if 5 < n {
+        return Num::Not;
+    }
+    if 1 < n {
+        if s[from] == 48 {
+            return Num::Not;
+        }
+    }
+    value_in(s, from, to)
+}
+
+// The number in the field at `at`.
+pub fn figure_at(s: &[u8], at: usize) -> Figure
+    requires { ⌜ at ≤ length (now s) ⌝ }
+    ensures { λ r. ⌜ FigureRead (now (s .entry)) at r ⌝ }
+{
+    if s.len() <= at {
+        return Figure::Wrong;
+    }
+    if s[at] != 9 {
+        return Figure::Wrong;
+    }
+    let from = at + 1;
+    let to = word_end(s, from);
+    let n = number_in(s, from, to);
+    match n {
+        Num::Value(v) => Figure::Is(v, to),
+        Num::Not => Figure::Wrong,
+    }
+}
+
+// The number of lo to hi in the field at `at`.
+pub fn number_at(s: &[u8], at: usize, lo: u16, hi: u16) -> Ranged
+    requires { ⌜ at ≤ length (now s) ⌝ }
+    ensures { λ r. ⌜ NumberRead (now (s .entry)) at lo hi r ⌝ }
+{
+    let f = figure_at(s, at);
+    match f {
+        Figure::Wrong => Ranged::Not(3),
+        Figure::Is(v, next) => {
+            if v < lo as u32 {
+                return Ranged::Not(4);
+            }
+            if (hi as u32) < v {
+                return Ranged::Not(4);
+            }
+            Ranged::Is(v as u16, next)
+        }
+    }
+}
+
+// The number that the field at `at` has to hold: an edition, a running number.
+pub fn running_at(s: &[u8], at: usize, v: u16) -> Found
+    requires { ⌜ at ≤ length (now s) ⌝ }
+    ensures { λ r. ⌜ FoundRead (now (s .entry)) (λ k. running k v (drop at (now (s .entry)))) r ⌝ }
+{
+    let f = figure_at(s, at);
+    match f {
+        Figure::Wrong => Found::Wrong,
+        Figure::Is(u, next) => {
+            if u != v as u32 {
+                return Found::Wrong;
+            }
+            Found::To(next)
+        }
+    }
+}
+
+// The end of a line at `at`.
+pub fn line_end_at(s: &[u8], at: usize) -> Found
+    requires { ⌜ at ≤ length (now s) ⌝ }
+    ensures { λ r. ⌜ FoundRead (now (s .entry)) (λ k. lineEnd k (drop at (now (s .entry)))) r ⌝ }
+{
+    if s.len() <= at {
+        return Found::Wrong;
+    }
+    if s[at] != 10 {
+        return Found::Wrong;
+    }
+    Found::To(at + 1)
+}
+
+// Whether the bytes between two positions are the word w.
+pub fn same_word(s: &[u8], from: usize, to: usize, w: &[u8]) -> bool
+    requires { ⌜ (from ≤ to) × (to ≤ length (now s)) ⌝ }
+    ensures { λ r. ⌜ r ≡ same (slice from to (now (s .entry))) (now (w .entry)) ⌝ }
+{
+    if to - from != w.len() {
+        return false;
+    }
+    let mut i: usize = 0;
+    while i < w.len() {
+        if s[from + i] != w[i] {
+            return false;
+        }
+        i += 1;
+    }
+    true
+}
+
+// The word w at the beginning of a line.
+pub fn keyword_at(s: &[u8], at: usize, w: &[u8]) -> Found
+    requires { ⌜ at ≤ length (now s) ⌝ }
+    ensures { λ r. ⌜ KeywordRead (now (s .entry)) at (now (w .entry)) r ⌝ }
+{
+    let to = word_end(s, at);
+    if same_word(s, at, to, w) {
+        Found::To(to)
+    } else {
+        Found::Wrong
+    }
+}
+
+// One byte, and the position after it.
+pub fn put_byte(out: &mut [u8], at: usize, b: u8) -> usize
+    requires { ⌜ at < length (now out) ⌝ }
+    ensures { λ r. ⌜ Put (now (out .entry)) (now (out .exit)) at (b ∷ []) r ⌝ }
+{
+    out[at] = b;
+    at + 1
+}
+
+// The bytes of a word, and the position after them.
+pub fn put_word(out: &mut [u8], at: usize, w: &[u8]) -> usize
+    requires { ⌜ at + length (now w) ≤ length (now out) ⌝ }
+    ensures { λ r. ⌜ Put (now (out .entry)) (now (out .exit)) at (now (w .entry)) r ⌝ }
+{
+    let mut i: usize = 0;
+    while i < w.len() {
+        out[at + i] = w[i];
+        i += 1;
+    }
+    at + i
+}
+
+// The digits of a number, and the position after them.
+pub fn put_digits(out: &mut [u8], at: usize, v: u16) -> usize
+    requires { ⌜ at + length (digitsOf v) ≤ length (now out) ⌝ }
+    ensures { λ r. ⌜ Put (now (out .entry)) (now (out .exit)) at (digitsOf v) r ⌝ }
+{
+    if v < 10 {
+        return put_byte(out, at, 48 + v as u8);
+    }
+    let p = put_digits(out, at, v / 10);
+    put_byte(out, p, 48 + (v % 10) as u8)
+}
+
+// A number as a field, and the position after it.
+pub fn put_number(out: &mut [u8], at: usize, v: u16) -> usize
+    requires { ⌜ at + length (writeNumber v) ≤ length (now out) ⌝ }
+    ensures { λ r. ⌜ Put (now (out .entry)) (now (out .exit)) at (writeNumber v) r ⌝ }
+{
+    let p = put_byte(out, at, 9);
+    put_digits(out, p, v)
+}

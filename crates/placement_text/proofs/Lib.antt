@@ -1,0 +1,8 @@
+-- The placement text there and back.
+pub mod Marks
+pub mod Repeats
+pub mod Lists
+pub mod Sides
+pub mod Pairs
+pub mod Short
+pub mod Round

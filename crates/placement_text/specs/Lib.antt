@@ -1,0 +1,5 @@
+-- The placement text: how it is written and how it is read.
+pub mod Words
+pub mod Writer
+pub mod Reader
+pub mod Examples
