@@ -8,3 +8,4 @@ pub mod Walk
 pub mod Seen
 pub mod Lines
 pub mod Receipts
+pub mod Views

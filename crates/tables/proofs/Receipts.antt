@@ -1,13 +1,12 @@
 -- A trainee's list and its receipt: each way through the code, against what the tables say. Assumes nothing.
 use Prim.Native.Nat.{ℕ, zero, suc, _+_, _≤_, _<_}
-use mathlib.Core.Path.{_≡_, refl, sym, ap, ap₂, _∙_, subst}
+use mathlib.Core.Path.{_≡_, refl, sym, ap, _∙_, subst}
 use mathlib.Core.Logic.{_⊎_, inl, inr}
 use mathlib.Core.Bool.{true, false, false≢true}
 use mathlib.Core.Option.{Option, none, some}
-use mathlib.Core.List.{List, [], _∷_, _++_}
+use mathlib.Core.List.{List, [], _∷_}
 use native.Mathlib.Omega.{arith}
-use lib.ListN.{length, getD, take, drop, length-drop, length-append}
-use lib.Seq.{take-append-seam}
+use lib.ListN.{length, getD}
 use lib.Dec.{leb, eqb}
 use borrow.Author.Tests.{leb-true, le-leb, lt-leb, eq-eqb, ne-eqb}
 use Rattle.meaning.specs.Numbers.{In, _&_}
@@ -16,12 +15,12 @@ use Rattle.meaning.specs.Answers.{SHORT-PART, NOT-READ, refusal}
 use Rattle.meaning.specs.declared.Receipt.{Receipt}
 use Rattle.meaning.proofs.Booleans.{true-or-false, and-left, and-right}
 use Rattle.meaning.proofs.Numbers.{order}
-use Rattle.tables.specs.Cells.{missingCell, lengthCell, listCells, traineeStart, part}
+use Rattle.tables.specs.Cells.{missingCell, traineeStart, part}
 use Rattle.tables.specs.Decode.{Sides, sidesOf, placementOf}
 use Rattle.tables.specs.Answers.{sized, Said, refused, out-of-range, not-received, received, saidOf, saidAmong, saidBy, saidIfHeld, said, handedBack, receiptOf, traineeList, traineeReceipt}
 use Rattle.tables.specs.Walk.{isSome}
 use Rattle.tables.proofs.Round.{parts}
-use Rattle.tables.proofs.Seen.{ListSeen, SidesSeen, sides-seen}
+use Rattle.tables.proofs.Seen.{PartSeen, part-seen, ListSeen, SidesSeen, sides-seen}
 use Rattle.tables.proofs.Lines.{none?, list-cell}
 
 -- ---- sizes
@@ -140,23 +139,6 @@ module _ (h e o : List ℕ) (i : ℕ) where
           record { sides = d .sides; decoded = d .sides-of; by = rw (k, said) (rw x (ap (λ z. saidBy (z .trainees) i) (sym (d .is)))) }
 
 -- ---- the part handed back
-
--- a received list, as a part of the entries
-pub record PartSeen (h e : List ℕ) (at : ℕ) (l : List ℕ) : Type 0 where
-  pub fits : getD h at 0 + getD h (at + 1) 0 ≤ length e
-  pub is : part h e at ≡ l
-
-pub part-seen : (hi at : ℕ) (h e l : List ℕ) → ListSeen hi at h e (some l) → PartSeen h e at l
-unfolding lengthCell listCells part
-part-seen hi at h e l s = go _ (s .back .rest)
-  where
-    go : (r : List ℕ) → drop (getD h at 0) e ≡ l ++ r → PartSeen h e at l
-    go r q =
-        let c = s .back .cell in
-        let w = s .within in
-        let u = ap length q ∙ length-append l r in
-        let x = length-drop (getD h at 0) e in
-        record { fits = omega arith; is = ap₂ take c q ∙ take-append-seam l r }
 
 record ReceivedBy (ls : List (Option (List ℕ))) (i : ℕ) (l : List ℕ) : Type 0 where
   here : In (length ls) i

@@ -1,18 +1,18 @@
 -- What heads and entries that decode say of each trainee and each depot, read off their own cells. Assumes nothing.
 use Prim.Native.Nat.{ℕ, zero, suc, _+_, _*_, _≤_, _<_}
-use mathlib.Core.Path.{_≡_, sym, ap, _∙_, subst}
+use mathlib.Core.Path.{_≡_, sym, ap, ap₂, _∙_, subst}
 use mathlib.Core.Option.{Option, none, some}
 use mathlib.Core.List.{List, [], _∷_, _++_}
 use native.Mathlib.Omega.{arith}
-use lib.ListN.{length, getD, drop, length-append}
-use lib.Seq.{drop-drop}
+use lib.ListN.{length, getD, take, drop, length-append, length-drop}
+use lib.Seq.{drop-drop, take-append-seam}
 use lib.Dec.{leb, eqb}
 use borrow.Author.Tests.{eqb-true}
 use Rattle.meaning.specs.Numbers.{In}
 use Rattle.meaning.specs.Lists.{weigh}
 use Rattle.meaning.specs.Placement.{Depot, depot, size, depotSize, LegalList, LegalPosts}
 use Rattle.meaning.proofs.Booleans.{some-own, none-some}
-use Rattle.tables.specs.Cells.{postsCell, listCells, traineeCells, depotCells, depotListCells, seriesCells, joined, headCells, laid, traineeStart, depotStart, HeadRoom}
+use Rattle.tables.specs.Cells.{postsCell, lengthCell, part, listCells, traineeCells, depotCells, depotListCells, seriesCells, joined, headCells, laid, traineeStart, depotStart, HeadRoom}
 use Rattle.tables.specs.Decode.{next, listFrom, postsFrom, traineeFrom, depotFrom, traineesFrom, depotsFrom, limits, Sides, listsFrom, sidesOf, placementWith}
 use Rattle.tables.proofs.Tests.{went, when-back}
 use Rattle.tables.proofs.Series.{series-cells, joined-weigh, series-back, two-cells, three-cells, Single, series-at}
@@ -59,6 +59,23 @@ depot-seen n at h e d k s =
       posts-cell = p .1;
       list-seen = seen-from n at (s .start) h e (y .value) (s .within) (eqb-true (getD h at 0) (s .start) (w .0)) (y .here);
     }
+
+-- a received list, as a part of the entries
+pub record PartSeen (h e : List ℕ) (at : ℕ) (l : List ℕ) : Type 0 where
+  pub fits : getD h at 0 + getD h (at + 1) 0 ≤ length e
+  pub is : part h e at ≡ l
+
+pub part-seen : (hi at : ℕ) (h e l : List ℕ) → ListSeen hi at h e (some l) → PartSeen h e at l
+unfolding lengthCell listCells part
+part-seen hi at h e l s = go _ (s .back .rest)
+  where
+    go : (r : List ℕ) → drop (getD h at 0) e ≡ l ++ r → PartSeen h e at l
+    go r q =
+        let c = s .back .cell in
+        let w = s .within in
+        let u = ap length q ∙ length-append l r in
+        let x = length-drop (getD h at 0) e in
+        record { fits = omega arith; is = ap₂ take c q ∙ take-append-seam l r }
 
 -- ---- all of them
 
