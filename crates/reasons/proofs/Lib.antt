@@ -3,3 +3,4 @@ pub mod Settled
 pub mod Counts
 pub mod Least
 pub mod Choosing
+pub mod Steps

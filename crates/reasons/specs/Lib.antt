@@ -2,3 +2,4 @@
 pub mod Rows
 pub mod Scans
 pub mod Reasons
+pub mod Answers
