@@ -1,0 +1,2 @@
+-- Laws of strikes in cells, for callers.
+pub mod Encoding

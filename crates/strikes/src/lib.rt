@@ -1,0 +1,77 @@
+// Strikes as plain cells, and the lent row of strikes. Every function over `&[Strike]` or `&mut [Strike]` that other crates need stands here, so that they work on plain cells.
+ghost use mathlib.Core.Path.{_≡_};
+ghost use mathlib.Core.List.{_++_};
+ghost use Prim.Native.Nat.{_+_, _*_, _<_, _≤_};
+ghost use lib.ListN.{length, set, take, drop};
+ghost use Rattle.meaning.specs.Answers.{reasonNumber, reasonWitness};
+ghost use Rattle.strikes.specs.Cells.{at, cellsOf, cellsWith, reasonOf, strikeAt, strikesIn};
+use meaning::Reason;
+use meaning::Strike;
+
+// A reason from its two cells.
+pub fn reason_of(number: u16, witness: u16) -> Reason
+    ensures { λ r. ⌜ r ≡ reasonOf number witness ⌝ }
+{
+    if number < 2 {
+        Reason::Barred
+    } else if number == 2 {
+        Reason::HeldElsewhere(witness)
+    } else if number == 3 {
+        Reason::PostsGone
+    } else {
+        Reason::Passed(witness)
+    }
+}
+
+// The paper's number of a reason.
+pub fn number_of(r: Reason) -> u16
+    ensures { λ n. ⌜ n ≡ reasonNumber r ⌝ }
+{
+    match r {
+        Reason::Barred => 1,
+        Reason::HeldElsewhere(_) => 2,
+        Reason::PostsGone => 3,
+        Reason::Passed(_) => 4,
+    }
+}
+
+// The witness of a reason, 0 where it has none.
+pub fn witness_of(r: Reason) -> u16
+    ensures { λ n. ⌜ n ≡ reasonWitness r ⌝ }
+{
+    match r {
+        Reason::Barred => 0,
+        Reason::HeldElsewhere(j) => j,
+        Reason::PostsGone => 0,
+        Reason::Passed(k) => k,
+    }
+}
+
+// A strike is read back out of its cells.
+pub fn strike_in(cells: &[u16], k: usize) -> Strike
+    requires { ⌜ 4 * k + 4 ≤ length (now cells) ⌝ }
+    ensures { λ r. ⌜ r ≡ strikeAt (now (cells .entry)) k ⌝ }
+{
+    let b = 4 * k;
+    let reason = reason_of(cells[b + 2], cells[b + 3]);
+    let trainee = cells[b];
+    let depot = cells[b + 1];
+    Strike {
+        trainee: trainee,
+        depot: depot,
+        reason: reason,
+    }
+}
+
+// A strike goes into its cells, and no other cell changes.
+pub fn put_strike(cells: &mut [u16], k: usize, s: Strike)
+    requires { ⌜ 4 * k + 4 ≤ length (now cells) ⌝ }
+    ensures { λ _. ⌜ now (cells .exit) ≡ cellsWith (now (cells .entry)) k s ⌝ }
+{
+    let b = 4 * k;
+    let r = s.reason;
+    cells[b] = s.trainee;
+    cells[b + 1] = s.depot;
+    cells[b + 2] = number_of(r);
+    cells[b + 3] = witness_of(r);
+}
