@@ -1,16 +1,15 @@
 -- Strikes in cells lose nothing: what is put is read back, other strikes stay, and one more put is one more strike. Assumes nothing.
 use Prim.Native.Nat.{ℕ, zero, suc, _+_, _*_, _-_, _≤_, _<_}
 use native.Mathlib.Omega.{arith, ne-cases}
-use native.Mathlib.Nat.{add-zero, mul-suc}
-use native.Mathlib.Numerals.{add-one}
-use mathlib.Core.Path.{_≡_, refl, sym, ap, ap₂, _∙_, subst}
-use mathlib.Core.List.{List, [], _∷_, _++_, append-assoc, append-nil}
+use native.Mathlib.Nat.{add-zero}
+use mathlib.Core.Path.{_≡_, refl, ap₂, _∙_}
+use mathlib.Core.List.{List, [], _∷_, _++_, append-assoc}
 use lib.ListN.{length, getD, take, drop, set, length-append, length-drop, List·getD-append}
-use lib.Seq.{length-take-le, getD-append-add, getD-append-seam, getD-take, getD-drop, drop-drop, drop-cons, set-at, take-at, drop-at, take-suc, sets-eq, take-append-le}
+use lib.Seq.{length-take-le, getD-append-add, getD-append-seam, getD-take, getD-drop, sets-eq}
 use Rattle.meaning.specs.declared.Reason.{Reason}
 use Rattle.meaning.specs.declared.Strike.{Strike}
 use Rattle.meaning.specs.Answers.{reasonNumber, reasonWitness, strikeNumbers}
-use Rattle.strikes.specs.Cells.{reasonOf, strikeAt, strikesIn, cellsWith, cellsOf, at}
+use Rattle.strikes.specs.Cells.{reasonOf, strikeAt, strikesIn, cellsWith, at}
 
 -- ---- reasons
 

@@ -36,6 +36,10 @@ unfoldable pub cellsOf : List Strike → List ℕ
 cellsOf [] = []
 cellsOf (s ∷ ss) = strikeNumbers s ++ cellsOf ss
 
--- the strike at k of a record; past its end, one that no rule reads
+-- what stands past a record's end
+abbrev pub blank : Strike
+blank = record { trainee = 0; depot = 0; reason = Reason.Barred }
+
+-- the strike at k of a record, counted from 0
 abbrev pub at : List Strike → ℕ → Strike
-at ss k = getD ss k (record { trainee = 0; depot = 0; reason = Reason.Barred })
+at ss k = getD ss k blank

@@ -75,3 +75,52 @@ pub fn put_strike(cells: &mut [u16], k: usize, s: Strike)
     cells[b + 2] = number_of(r);
     cells[b + 3] = witness_of(r);
 }
+
+// The length of a record.
+pub fn record_len(log: &[Strike]) -> usize
+    ensures { λ r. ⌜ r ≡ length (now (log .entry)) ⌝ }
+{
+    log.len()
+}
+
+// One strike is taken out of a record.
+pub fn strike_at(log: &[Strike], k: usize) -> Strike
+    requires { ⌜ k < length (now log) ⌝ }
+    ensures { λ r. ⌜ r ≡ at (now (log .entry)) k ⌝ }
+{
+    log[k]
+}
+
+// One strike is stored in a record.
+pub fn store(log: &mut [Strike], k: usize, s: Strike)
+    requires { ⌜ k < length (now log) ⌝ }
+    ensures { λ _. ⌜ now (log .exit) ≡ set (now (log .entry)) k s ⌝ }
+{
+    log[k] = s;
+}
+
+// The strikes that the cells hold go into the record's front, and the rest of the record stays.
+pub fn fill_record(log: &mut [Strike], cells: &[u16], count: usize)
+    requires { ⌜ (count ≤ length (now log)) × (4 * count ≤ length (now cells)) ⌝ }
+    ensures { λ _. ⌜ now (log .exit) ≡ strikesIn (now (cells .entry)) count ++ drop count (now (log .entry)) ⌝ }
+{
+    let mut k: usize = 0;
+    while k < count {
+        let s = strike_in(cells, k);
+        store(&mut *log, k, s);
+        k += 1;
+    }
+}
+
+// The record's front goes into the cells, and the cells past it stay.
+pub fn flatten(log: &[Strike], count: usize, cells: &mut [u16])
+    requires { ⌜ (count ≤ length (now log)) × (4 * count ≤ length (now cells)) ⌝ }
+    ensures { λ _. ⌜ now (cells .exit) ≡ cellsOf (take count (now (log .entry))) ++ drop (4 * count) (now (cells .entry)) ⌝ }
+{
+    let mut k: usize = 0;
+    while k < count {
+        let s = strike_at(log, k);
+        put_strike(&mut *cells, k, s);
+        k += 1;
+    }
+}
