@@ -61,10 +61,10 @@ strikes-of ss r (suc k) h =
     let p : List ℕ = cellsOf (take k ss) in
     let long : length p ≡ 4 * k = cells-length (take k ss) ∙ ap (λ n. 4 * n) (length-take-le k ss (omega arith)) in
     let e : cellsOf ss ++ r ≡ p ++ (strikeNumbers s ++ (cellsOf (drop (suc k) ss) ++ r)) =
-        ap (λ l. cellsOf l ++ r) (split-at ss k _ inside)
-        ∙ ap (λ l. l ++ r) (cells-append (take k ss) (s ∷ drop (suc k) ss) ∙ ap (λ l. p ++ l) (cells-first s (drop (suc k) ss)))
-        ∙ append-assoc p (strikeNumbers s ++ cellsOf (drop (suc k) ss)) r
-        ∙ ap (λ l. p ++ l) (append-assoc (strikeNumbers s) (cellsOf (drop (suc k) ss)) r) in
+    ap (λ l. cellsOf l ++ r) (split-at ss k _ inside)
+    ∙ ap (λ l. l ++ r) (cells-append (take k ss) (s ∷ drop (suc k) ss) ∙ ap (λ l. p ++ l) (cells-first s (drop (suc k) ss)))
+    ∙ append-assoc p (strikeNumbers s ++ cellsOf (drop (suc k) ss)) r
+    ∙ ap (λ l. p ++ l) (append-assoc (strikeNumbers s) (cellsOf (drop (suc k) ss)) r) in
     let here : strikeAt (cellsOf ss ++ r) k ≡ s = ap (λ l. strikeAt l k) e ∙ strike-here p (cellsOf (drop (suc k) ss) ++ r) k s long in
     ap₂ (λ l x. l ++ (x ∷ [])) (strikes-of ss r k (omega arith)) here ∙ sym (take-suc ss k _ inside)
 
@@ -93,9 +93,9 @@ module _ (log : List Strike) (old : List ℕ) where
       let front : take (4 * k) (flat k) ≡ p = take-at p (drop (4 * k) old) (4 * k) long in
       let four-more : 4 * k + 4 ≡ 4 * suc k = omega arith in
       let back : drop (4 * k + 4) (flat k) ≡ drop (4 * suc k) old =
-          ap (λ n. drop (n + 4) (flat k)) (sym long) ∙ drop-append-add p (drop (4 * k) old) 4 ∙ drop-drop 4 (4 * k) old ∙ ap (λ n. drop n old) four-more in
+      ap (λ n. drop (n + 4) (flat k)) (sym long) ∙ drop-append-add p (drop (4 * k) old) 4 ∙ drop-drop 4 (4 * k) old ∙ ap (λ n. drop n old) four-more in
       let more : cellsOf (take (suc k) log) ≡ p ++ strikeNumbers s =
-          ap cellsOf (take-suc log k _ h) ∙ cells-append (take k log) (s ∷ []) ∙ ap (λ l. p ++ l) (cells-one s) in
+      ap cellsOf (take-suc log k _ h) ∙ cells-append (take k log) (s ∷ []) ∙ ap (λ l. p ++ l) (cells-one s) in
       ap₂ (λ a b. a ++ (strikeNumbers s ++ b)) front back ∙ sym (append-assoc p (strikeNumbers s) (drop (4 * suc k) old)) ∙ ap (λ l. l ++ drop (4 * suc k) old) (sym more)
 
   -- the cells hold the record's front
