@@ -7,4 +7,6 @@ pub mod Encoding
 pub mod Rows
 pub mod Again
 pub mod Turns
+pub mod Arrays
 pub mod Calls
+pub mod Passing
