@@ -1,8 +1,9 @@
 -- Strikes in plain cells, four to a strike: trainee, depot, reason, witness. Assumes nothing.
-use Prim.Native.Nat.{ℕ, zero, suc, _+_, _*_}
+use Prim.Native.Nat.{ℕ, zero, suc, _+_, _*_, min}
 use mathlib.Core.List.{List, [], _∷_, _++_}
 use lib.ListN.{getD, take, drop}
 use Rattle.meaning.specs.declared.Reason.{Reason}
+use Rattle.meaning.specs.declared.Ruled.{Ruled}
 use Rattle.meaning.specs.declared.Strike.{Strike}
 use Rattle.meaning.specs.Answers.{strikeNumbers}
 
@@ -43,3 +44,12 @@ blank = record { trainee = 0; depot = 0; reason = Reason.Barred }
 -- the strike at k of a record, counted from 0
 abbrev pub at : List Strike → ℕ → Strike
 at ss k = getD ss k blank
+
+-- how many strikes an answer leaves in the record: none where it refuses
+unfoldable pub recorded : Ruled → ℕ
+recorded (Ruled.Ruling r) = r .strikes
+recorded (Ruled.Refused r) = 0
+
+-- how many of `count` strikes to take out of a record of this length: no more than it has, and no more than its full size
+abbrev pub taken : ℕ → ℕ → ℕ
+taken count room = min count (min room 4096)

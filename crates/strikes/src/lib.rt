@@ -4,8 +4,9 @@ ghost use mathlib.Core.List.{_++_};
 ghost use Prim.Native.Nat.{_+_, _*_, _<_, _≤_};
 ghost use lib.ListN.{length, set, take, drop};
 ghost use Rattle.meaning.specs.Answers.{reasonNumber, reasonWitness};
-ghost use Rattle.strikes.specs.Cells.{at, cellsOf, cellsWith, reasonOf, strikeAt, strikesIn};
+ghost use Rattle.strikes.specs.Cells.{at, cellsOf, cellsWith, reasonOf, recorded, strikeAt, strikesIn, taken};
 use meaning::Reason;
+use meaning::Ruled;
 use meaning::Strike;
 
 // A reason from its two cells.
@@ -122,5 +123,29 @@ pub fn flatten(log: &[Strike], count: usize, cells: &mut [u16])
         let s = strike_at(log, k);
         put_strike(&mut *cells, k, s);
         k += 1;
+    }
+}
+
+// How many strikes go into the record with an answer, so that a refusal changes nothing without a branch.
+pub fn recorded_by(r: Ruled) -> usize
+    ensures { λ n. ⌜ n ≡ recorded r ⌝ }
+{
+    match r {
+        Ruled::Ruling(ruling) => ruling.strikes as usize,
+        Ruled::Refused(_) => 0,
+    }
+}
+
+// How many strikes to flatten, so that a ruling with more than the record holds needs no branch before it is refused.
+pub fn taken_of(count: u16, room: usize) -> usize
+    ensures { λ n. ⌜ n ≡ taken count room ⌝ }
+{
+    let n = count as usize;
+    if n <= room {
+        if n <= 4096 { n } else { 4096 }
+    } else if room <= 4096 {
+        room
+    } else {
+        4096
     }
 }
