@@ -26,22 +26,22 @@ numberIf true k = k
 numberIf false k = 0
 
 -- the list of trainee i, the list and the posts of depot j; nothing where there is no such trainee or depot
-unfoldable pub traineeCells : List ℕ → List ℕ → ℕ → List ℕ
-traineeCells h e i = listIf (within (nOf h) i) (part h e (traineeStart i))
+unfoldable pub wishesOf : List ℕ → List ℕ → ℕ → List ℕ
+wishesOf h e i = listIf (within (nOf h) i) (part h e (traineeStart i))
 
-unfoldable pub depotCells : List ℕ → List ℕ → ℕ → List ℕ
-depotCells h e j = listIf (within (mOf h) j) (part h e (depotStart (nOf h) j))
+unfoldable pub rankingOf : List ℕ → List ℕ → ℕ → List ℕ
+rankingOf h e j = listIf (within (mOf h) j) (part h e (depotStart (nOf h) j))
 
-unfoldable pub postsCell : List ℕ → ℕ → ℕ
-postsCell h j = numberIf (within (mOf h) j) (getD h (depotStart (nOf h) j + 2) 0)
+unfoldable pub postsOf : List ℕ → ℕ → ℕ
+postsOf h j = numberIf (within (mOf h) j) (getD h (depotStart (nOf h) j + 2) 0)
 
 unfoldable pub marketOf : List ℕ → List ℕ → Market
 marketOf h e = record {
   n = nOf h;
   m = mOf h;
-  trainee-rank = λ i j. place (traineeCells h e i) j;
-  depot-rank = λ j i. place (depotCells h e j) i;
-  posts = postsCell h;
+  trainee-rank = λ i j. place (wishesOf h e i) j;
+  depot-rank = λ j i. place (rankingOf h e j) i;
+  posts = postsOf h;
 }
 
 -- ---- what full tables meet
@@ -59,11 +59,11 @@ pub record FullTables (h e : List ℕ) : Type 0 where
   pub few-depots : mOf h ≤ 64
   pub trainee-part : (i : ℕ) → In (nOf h) i → getD h (traineeStart i) 0 + getD h (traineeStart i + 1) 0 ≤ length e
   pub depot-part : (j : ℕ) → In (mOf h) j → getD h (depotStart (nOf h) j) 0 + getD h (depotStart (nOf h) j + 1) 0 ≤ length e
-  pub trainee-short : (i : ℕ) → length (traineeCells h e i) ≤ 64
-  pub depot-short : (j : ℕ) → length (depotCells h e j) ≤ 256
-  pub few-posts : (j : ℕ) → postsCell h j ≤ 256
-  pub few-entries : sum (nOf h) (λ i. length (traineeCells h e i)) ≤ 4096
-  pub trainee-names : (i : ℕ) → Names (mOf h) (traineeCells h e i)
-  pub depot-names : (j : ℕ) → Names (nOf h) (depotCells h e j)
-  pub trainee-once : (i : ℕ) → Once (traineeCells h e i)
-  pub depot-once : (j : ℕ) → Once (depotCells h e j)
+  pub trainee-short : (i : ℕ) → length (wishesOf h e i) ≤ 64
+  pub depot-short : (j : ℕ) → length (rankingOf h e j) ≤ 256
+  pub few-posts : (j : ℕ) → postsOf h j ≤ 256
+  pub few-entries : sum (nOf h) (λ i. length (wishesOf h e i)) ≤ 4096
+  pub trainee-names : (i : ℕ) → Names (mOf h) (wishesOf h e i)
+  pub depot-names : (j : ℕ) → Names (nOf h) (rankingOf h e j)
+  pub trainee-once : (i : ℕ) → Once (wishesOf h e i)
+  pub depot-once : (j : ℕ) → Once (rankingOf h e j)

@@ -6,7 +6,7 @@ ghost use Rattle.meaning.specs.Numbers.{In};
 ghost use Rattle.meaning.specs.Lists.{place};
 ghost use Rattle.meaning.specs.Market.{mutual?};
 ghost use Rattle.tables.specs.Cells.{part};
-ghost use Rattle.ranks.specs.View.{nOf, mOf, traineeCells, depotCells, postsCell, marketOf, FullTables};
+ghost use Rattle.ranks.specs.View.{nOf, mOf, wishesOf, rankingOf, postsOf, marketOf, FullTables};
 
 // The entries of the list whose start and length stand at `at` in the heads.
 fn part_at<'a>(heads: &[u16], entries: &'a [u16], at: usize) -> &'a [u16]
@@ -21,7 +21,7 @@ fn part_at<'a>(heads: &[u16], entries: &'a [u16], at: usize) -> &'a [u16]
 // The list of trainee i.
 pub fn trainee_part<'a>(heads: &[u16], entries: &'a [u16], i: usize) -> &'a [u16]
     requires { ⌜ FullTables (now heads) (now entries) × In (nOf (now heads)) i ⌝ }
-    ensures { λ r. ⌜ now r ≡ traineeCells (now (heads .entry)) (now (entries .entry)) i ⌝ }
+    ensures { λ r. ⌜ now r ≡ wishesOf (now (heads .entry)) (now (entries .entry)) i ⌝ }
 {
     part_at(heads, entries, tables::trainee_at(i))
 }
@@ -29,7 +29,7 @@ pub fn trainee_part<'a>(heads: &[u16], entries: &'a [u16], i: usize) -> &'a [u16
 // The list of depot j.
 pub fn depot_part<'a>(heads: &[u16], entries: &'a [u16], j: usize) -> &'a [u16]
     requires { ⌜ FullTables (now heads) (now entries) × In (mOf (now heads)) j ⌝ }
-    ensures { λ r. ⌜ now r ≡ depotCells (now (heads .entry)) (now (entries .entry)) j ⌝ }
+    ensures { λ r. ⌜ now r ≡ rankingOf (now (heads .entry)) (now (entries .entry)) j ⌝ }
 {
     let n = tables::trainees_of(heads);
     part_at(heads, entries, tables::depot_at(n, j))
@@ -38,7 +38,7 @@ pub fn depot_part<'a>(heads: &[u16], entries: &'a [u16], j: usize) -> &'a [u16]
 // The posts of depot j.
 pub fn posts_at(heads: &[u16], entries: &[u16], j: usize) -> usize
     requires { ⌜ FullTables (now heads) (now entries) × In (mOf (now heads)) j ⌝ }
-    ensures { λ r. ⌜ r ≡ postsCell (now (heads .entry)) j ⌝ }
+    ensures { λ r. ⌜ r ≡ postsOf (now (heads .entry)) j ⌝ }
 {
     let n = tables::trainees_of(heads);
     tables::posts_of(heads, tables::depot_at(n, j))

@@ -1,6 +1,7 @@
 -- The numbers that the code computes are the rows that it promises. Assumes nothing.
 use Prim.Native.Nat.{ℕ, _-_, _*_, _%_, _^_, _<_, _≤_}
 use mathlib.Core.Path.{_≡_, ap, sym, _∙_}
+use mathlib.Core.Bool.{not}
 use native.Mathlib.Nat.{one-mul}
 use native.Mathlib.Omega.{arith}
 use borrow.Author.Tests.{lt-leb}
@@ -9,8 +10,8 @@ use lib.Pow.{pow-lt, pow-pos, shl-exact}
 use lib.Bits.{bitOr, or-lt}
 use mir.Syntax.{w64}
 use mir.Val.{Fits}
-use Rattle.rows.specs.Marks.{marks, rowOf, withMark, pastEnd}
-use Rattle.rows.proofs.Digits.{lowest-or, lowest-from}
+use Rattle.rows.specs.Marks.{marks, isMarked, rowOf, withMark, pastEnd, turned}
+use Rattle.rows.proofs.Digits.{lowest-or, lowest-from, lowest-complement}
 use Rattle.rows.proofs.Marking.{row-of-marks, row-where-only}
 
 -- 1 shifted to place p
@@ -37,3 +38,8 @@ pub zero-past-end : (len : ℕ) → 64 ≤ len → 0 ≡ pastEnd len
 unfolding pastEnd marks
 zero-past-end len h =
     row-where-only (leb len) 0 (record { fits = lit< tt }) (λ p l. lowest-from 64 64 p (omega arith) l ∙ lt-leb 64 p l ∙ sym (lt-leb len p (omega arith)))
+
+-- the complement has the other marks
+pub complement-turned : (row : ℕ) → Fits w64 row → 2 ^ 64 - 1 - row ≡ turned row
+unfolding turned marks
+complement-turned row f = row-where-only (λ p. not (isMarked row p)) (2 ^ 64 - 1 - row) (record { fits = omega (arith, f .fits) }) (λ p l. lowest-complement 64 row p (f .fits) l)

@@ -2,7 +2,7 @@
 use Prim.Native.Nat.{ℕ, zero, suc, _+_, _-_, _*_, _/_, _%_, _^_, max, _<_, _≤_}
 use mathlib.Core.Path.{_≡_, refl, ap, ap₂, sym, _∙_}
 use mathlib.Core.Logic.{_⊎_, inl, inr, ⊎-elim}
-use mathlib.Core.Bool.{Bool, true, false}
+use mathlib.Core.Bool.{Bool, true, false, not}
 use mathlib.Core.List.{List, [], _∷_}
 use native.Mathlib.Nat.{not-suc-le-zero, le-of-suc-le-suc, div-one, pow-suc}
 use native.Mathlib.Numerals.{one-add}
@@ -135,3 +135,16 @@ lowest-from (suc k) (suc l) (suc p) h j =
     let r : 2 ^ suc l ≡ 2 ^ l * 2 = pow-suc 2 l in
     let hi : (2 ^ suc k - 2 ^ suc l) / 2 ≡ 2 ^ k - 2 ^ l = omega arith in
     rw hi (lowest-from k l p (le-of-suc-le-suc h) (le-of-suc-le-suc j) ∙ sym (leb·suc-suc l p))
+
+-- the digits of the complement are the other ones
+pub lowest-complement : (k n p : ℕ) → n < 2 ^ k → p < k → getD (lowest k (2 ^ k - 1 - n)) p false ≡ not (getD (lowest k n) p false)
+unfolding lowest
+lowest-complement zero n p h l = absurd (not-suc-le-zero l)
+lowest-complement (suc k) n zero h l =
+    let q : 2 ^ suc k ≡ 2 ^ k * 2 = pow-suc 2 k in
+    let lo : (2 ^ suc k - 1 - n) % 2 ≡ 1 - n % 2 = omega arith in
+    rw lo (⊎-elim (λ e. rw e) (λ e. rw e) (digit n))
+lowest-complement (suc k) n (suc p) h l =
+    let q : 2 ^ suc k ≡ 2 ^ k * 2 = pow-suc 2 k in
+    let hi : (2 ^ suc k - 1 - n) / 2 ≡ 2 ^ k - 1 - n / 2 = omega arith in
+    rw hi (lowest-complement k (n / 2) p (omega arith) (le-of-suc-le-suc l))

@@ -1,7 +1,7 @@
 -- The marks of each row that a caller can make. Assumes nothing.
 use Prim.Native.Nat.{ℕ, zero, suc, _+_, _^_, _<_, _≤_}
 use mathlib.Core.Path.{_≡_, refl, ap, sym, _∙_, subst}
-use mathlib.Core.Bool.{Bool, true, false, false≢true}
+use mathlib.Core.Bool.{Bool, true, false, not, false≢true}
 use mathlib.Core.List.{List}
 use native.Mathlib.Nat.{add-zero}
 use native.Mathlib.Omega.{arith}
@@ -11,7 +11,7 @@ use lib.ListN.{length, getD, set, length-set, List·getD-eq-default}
 use lib.Seq.{getD-set-same, getD-set-other, ext-getD}
 use mir.Syntax.{w64}
 use mir.Val.{Fits}
-use Rattle.rows.specs.Marks.{lowest, marks, isMarked, rowOf, withMark, markIf, tests, rowWhere, pastEnd}
+use Rattle.rows.specs.Marks.{lowest, marks, isMarked, rowOf, withMark, markIf, tests, rowWhere, pastEnd, turned}
 use Rattle.rows.proofs.Digits.{lowest-length, row-of-lowest, lowest-of-row, row-below}
 
 -- ---- rows and marks, there and back
@@ -129,3 +129,11 @@ past-end-fits len = row-where-fits (leb len)
 pub past-end-at : (len p : ℕ) → p < 64 → isMarked (pastEnd len) p ≡ leb len p
 unfolding pastEnd
 past-end-at len p h = row-where-at (leb len) p h
+
+pub turned-fits : (row : ℕ) → Fits w64 (turned row)
+unfolding turned
+turned-fits row = row-where-fits (λ p. not (isMarked row p))
+
+pub turned-at : (row p : ℕ) → p < 64 → isMarked (turned row) p ≡ not (isMarked row p)
+unfolding turned
+turned-at row p l = row-where-at (λ p. not (isMarked row p)) p l

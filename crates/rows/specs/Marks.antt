@@ -1,7 +1,7 @@
 -- A row of 64 bits read as 64 marks, place 0 first, and the rows that have given marks.
 -- Assumes nothing.
 use Prim.Native.Nat.{ℕ, zero, suc, _+_, _*_, _/_, _%_}
-use mathlib.Core.Bool.{Bool, true, false}
+use mathlib.Core.Bool.{Bool, true, false, not}
 use mathlib.Core.List.{List, [], _∷_}
 use lib.Dec.{eqb, leb}
 use lib.ListN.{getD, set}
@@ -45,3 +45,7 @@ rowWhere P = rowOf (tests P 0 64)
 -- the row in which exactly the places from len on are marked
 unfoldable pub pastEnd : ℕ → ℕ
 pastEnd len = rowWhere (leb len)
+
+-- the row in which exactly the other places are marked
+unfoldable pub turned : ℕ → ℕ
+turned row = rowWhere (λ p. not (isMarked row p))

@@ -3,7 +3,7 @@
 ghost use mathlib.Core.Path.{_≡_};
 ghost use Prim.Native.Nat.{_<_};
 ghost use lib.ListN.{length, getD, set};
-ghost use Rattle.rows.specs.Marks.{isMarked, withMark, markIf, pastEnd};
+ghost use Rattle.rows.specs.Marks.{isMarked, withMark, markIf, pastEnd, turned};
 ghost use Rattle.rows.specs.Left.{firstPlaceLeft, numberMarked, numberLeft};
 
 // Whether place p is marked.
@@ -56,6 +56,13 @@ pub fn past_end(len: usize) -> u64
     ensures { λ r. ⌜ r ≡ pastEnd len ⌝ }
 {
     if len < 64 { !((1 << len) - 1) } else { 0 }
+}
+
+// The row in which what was left is marked, so that a search for a place left finds a marked one.
+pub fn turn(row: u64) -> u64
+    ensures { λ r. ⌜ r ≡ turned row ⌝ }
+{
+    !row
 }
 
 // Marks place p of row i.

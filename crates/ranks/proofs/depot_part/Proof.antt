@@ -1,6 +1,6 @@
 use native.Mathlib.Omega.{arith}
 use mathlib.Core.Path.{sym, _∙_, ap}
-use Rattle.ranks.proofs.Tables.{depot-cells}
+use Rattle.ranks.proofs.Tables.{ranking-is}
 use borrow.Author.Needs.{needs}
 use Rattle.ranks.proofs.depot_part.Statement.{statement}
 use Rattle.ranks.proofs.depot_part.Tie as tie
@@ -24,7 +24,7 @@ part-at-requires c κs = let a = c .before .before .before .before in (omega (ar
 
 -- src/lib.rt:30:1
 returns : tie.Need-returns
-returns c = let a = c .before .before .before .before .before in c .part-at .ensures ∙ rw (c .before .depot-at .ensures, c .before .before .trainees-of .ensures) (sym (depot-cells _ _ (a .args .j) (a .pre .1)))
+returns c = let a = c .before .before .before .before .before in c .part-at .ensures ∙ rw (c .before .depot-at .ensures, c .before .before .trainees-of .ensures) (sym (ranking-is _ _ (a .args .j) (a .pre .1)))
 
 pub depot-part-spec : {M : Type 1} → statement M
 depot-part-spec =

@@ -1,6 +1,6 @@
 use native.Mathlib.Omega.{arith}
 use mathlib.Core.Path.{sym, _∙_, ap}
-use Rattle.ranks.proofs.Tables.{posts-cell}
+use Rattle.ranks.proofs.Tables.{posts-are}
 use borrow.Author.Needs.{needs}
 use Rattle.ranks.proofs.posts_at.Statement.{statement}
 use Rattle.ranks.proofs.posts_at.Tie as tie
@@ -24,7 +24,7 @@ posts-of-requires c κs = search needs
 
 -- src/lib.rt:39:1
 returns : tie.Need-returns
-returns c = let a = c .before .before .before .before .before in c .posts-of .ensures ∙ rw (c .before .depot-at .ensures, c .before .before .trainees-of .ensures) (sym (posts-cell _ (a .args .j) (a .pre .1)))
+returns c = let a = c .before .before .before .before .before in c .posts-of .ensures ∙ rw (c .before .depot-at .ensures, c .before .before .trainees-of .ensures) (sym (posts-are _ (a .args .j) (a .pre .1)))
 
 pub posts-at-spec : {M : Type 1} → statement M
 posts-at-spec =

@@ -1,6 +1,6 @@
 use native.Mathlib.Omega.{arith}
 use mathlib.Core.Path.{sym, _∙_, ap}
-use Rattle.ranks.proofs.Tables.{trainee-cells}
+use Rattle.ranks.proofs.Tables.{wishes-are}
 use borrow.Author.Needs.{needs}
 use Rattle.ranks.proofs.trainee_part.Statement.{statement}
 use Rattle.ranks.proofs.trainee_part.Tie as tie
@@ -19,7 +19,7 @@ part-at-requires c κs = let a = c .before .before .before in (omega (arith, c .
 
 -- src/lib.rt:22:1
 returns : tie.Need-returns
-returns c = let a = c .before .before .before .before in c .part-at .ensures ∙ rw (c .before .trainee-at .ensures) (sym (trainee-cells _ _ (a .args .i) (a .pre .1)))
+returns c = let a = c .before .before .before .before in c .part-at .ensures ∙ rw (c .before .trainee-at .ensures) (sym (wishes-are _ _ (a .args .i) (a .pre .1)))
 
 pub trainee-part-spec : {M : Type 1} → statement M
 trainee-part-spec = tie.close (tie.spec trainee-at-requires part-at-requires returns)

@@ -1,0 +1,4 @@
+-- What rows and tables say of the reasons.
+pub mod Rows
+pub mod Scans
+pub mod Reasons
