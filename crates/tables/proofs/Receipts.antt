@@ -11,6 +11,7 @@ use lib.Dec.{leb, eqb}
 use borrow.Author.Tests.{leb-true, le-leb, lt-leb, eq-eqb, ne-eqb}
 use Rattle.meaning.specs.Numbers.{In, _&_}
 use Rattle.meaning.specs.Placement.{Placement}
+use Rattle.meaning.specs.Full.{notReceived}
 use Rattle.meaning.specs.Answers.{SHORT-PART, NOT-READ, refusal}
 use Rattle.meaning.specs.declared.Receipt.{Receipt}
 use Rattle.meaning.proofs.Booleans.{true-or-false, and-left, and-right}
@@ -21,7 +22,7 @@ use Rattle.tables.specs.Answers.{sized, Said, refused, out-of-range, not
 use Rattle.tables.specs.Walk.{isSome}
 use Rattle.tables.proofs.Round.{parts}
 use Rattle.tables.proofs.Seen.{PartSeen, part-seen, ListSeen, SidesSeen, sides-seen}
-use Rattle.tables.proofs.Lines.{none?, list-cell}
+use Rattle.tables.proofs.Lines.{list-cell}
 
 -- ---- sizes
 
@@ -88,22 +89,22 @@ module _ (h e : List ℕ) (b : Sides) (s : SidesSeen h e b) (i : ℕ) where
     pub said-list : saidBy (b .trainees) i ≡ saidOf list
     said-list = said-in (b .trainees) i (record { low = u .low; high = omega (arith, u .high, s .counts .trainees) })
 
-    cell : eqb (getD h (traineeStart i + 1) 0) missingCell ≡ none? list
+    cell : eqb (getD h (traineeStart i + 1) 0) missingCell ≡ notReceived list
     cell = list-cell (getD h 2 0) (traineeStart i) h e list (omega (arith, s .room .few-depots)) (s .trainee i u)
 
     pub receipt-not-received : getD h (traineeStart i + 1) 0 ≡ missingCell → Receipt.NotReceived ≡ receiptOf (saidBy (b .trainees) i)
-    unfolding receiptOf saidOf
+    unfolding receiptOf saidOf notReceived
     receipt-not-received q = sym (ap receiptOf said-list ∙ go list (sym cell ∙ eq-eqb _ _ q))
       where
-        go : (l : Option (List ℕ)) → none? l ≡ true → receiptOf (saidOf l) ≡ Receipt.NotReceived
+        go : (l : Option (List ℕ)) → notReceived l ≡ true → receiptOf (saidOf l) ≡ Receipt.NotReceived
         go none x = refl
         go (some l) x = absurd (false≢true x)
 
     pub receipt-received : (getD h (traineeStart i + 1) 0 ≡ missingCell → ⊥) → Receipt.Received ≡ receiptOf (saidBy (b .trainees) i)
-    unfolding receiptOf saidOf
+    unfolding receiptOf saidOf notReceived
     receipt-received q = sym (ap receiptOf said-list ∙ go list (sym cell ∙ ne-eqb _ _ q))
       where
-        go : (l : Option (List ℕ)) → none? l ≡ false → receiptOf (saidOf l) ≡ Receipt.Received
+        go : (l : Option (List ℕ)) → notReceived l ≡ false → receiptOf (saidOf l) ≡ Receipt.Received
         go none x = absurd (false≢true (sym x))
         go (some l) x = refl
 

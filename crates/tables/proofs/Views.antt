@@ -19,7 +19,7 @@ use Rattle.meaning.proofs.Booleans.{true-or-false, none-some}
 use Rattle.meaning.proofs.Numbers.{order, sum-cong}
 use Rattle.meaning.proofs.Lists.{each-at}
 use Rattle.meaning.proofs.Full.{received, FullBack, full-back, full-trainees, full-depots, LegalFull, legal-full}
-use Rattle.tables.specs.Cells.{postsCell, kindCell, oneOrder, weightless, cellsOfOrders, laid, traineeStart, depotStart, HeadRoom}
+use Rattle.tables.specs.Cells.{postsCell, kindCell, oneOrder, weightless, cellsOfOrders, laid, traineeStart, depotStart, orderStart, HeadRoom}
 use Rattle.tables.specs.Decode.{orderFrom, Sides, sidesOf, ordersOf, placementWith, placementOf}
 use Rattle.tables.specs.Answers.{fullSides}
 use Rattle.tables.proofs.Series.{series-cells, three-cells, Single, series-at, series-count}
@@ -213,11 +213,11 @@ pub record OrderSeen (n m at : ℕ) (o : List ℕ) (x : Order) : Type 0 where
   pub depot : getD o (at + 2) 0 ≡ x .depot
   pub legal : LegalOrder n m x
 
--- the k-th order, counted from 0, stands behind the number of orders and three cells for each before it
+-- the orders counted from 0, each with cells of its own
 pub record OrdersSeen (n m : ℕ) (o : List ℕ) (xs : List Order) : Type 0 where
   pub count : getD o 0 0 ≡ length xs
   pub cells : 1 + 3 * length xs ≤ length o
-  pub order : (x : Order) (k : ℕ) → k < length xs → OrderSeen n m (1 + 3 * k) o (getD xs k x)
+  pub order : (x : Order) (k : ℕ) → k < length xs → OrderSeen n m (orderStart k) o (getD xs k x)
 
 order-seen : (n m at : ℕ) (o : List ℕ) (x : Order) → at + 2 < length o → Single (orderFrom n m) o [] at x → OrderSeen n m at o x
 unfolding oneOrder
@@ -242,7 +242,10 @@ orders-seen n m (c ∷ os) xs q =
     record {
       count = sym d;
       cells = l;
-      order = λ x k u. order-seen n m (1 + 3 * k) (c ∷ os) (getD xs k x) (omega arith) (series-at (orderFrom n m) weightless 3 (c ∷ os) [] x (λ s hs es a z. omega arith) c 1 0 xs (omega arith) q k (omega arith));
+      order = λ x k u.
+          let z : 1 + 3 * k ≡ orderStart k = omega arith in
+          let s = series-at (orderFrom n m) weightless 3 (c ∷ os) [] x (λ s hs es a z. omega arith) c 1 0 xs (omega arith) q k (omega arith) in
+          order-seen n m (orderStart k) (c ∷ os) (getD xs k x) (omega arith) (subst (λ at. Single (orderFrom n m) (c ∷ os) [] at (getD xs k x)) z s);
     }
 
 -- ---- the three tables

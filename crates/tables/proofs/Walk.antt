@@ -222,9 +222,9 @@ module _ (n m at : ℕ) (o : List ℕ) (k : at + 2 < length o) where
   unfolding orderFrom
   order-is = rw (three-cells o at k)
 
-  pub order-kind : 1 < getD o at 0 → false ≡ isSome (orderFrom n m 0 (drop at o) [])
+  pub order-unkind : 1 < getD o at 0 → false ≡ isSome (orderFrom n m 0 (drop at o) [])
   unfolding kindFrom next
-  order-kind h = sym (rw order-is (go (getD o at 0) h))
+  order-unkind h = sym (rw order-is (go (getD o at 0) h))
     where
       go : (x : ℕ) → 1 < x → isSome (next (kindFrom x) pair) ≡ false
       go zero h = absurd (omega arith)

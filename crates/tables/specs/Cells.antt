@@ -96,6 +96,10 @@ traineeStart i = 2 * i + 1
 abbrev pub depotStart : ℕ → ℕ → ℕ
 depotStart n j = 2 * n + 3 * j
 
+-- the cells of the order that k others stand before: its kind, its trainee and its depot
+abbrev pub orderStart : ℕ → ℕ
+orderStart k = 3 * k + 1
+
 -- the part of the entries whose start and length stand at `at`
 unfoldable pub part : List ℕ → List ℕ → ℕ → List ℕ
 part h e at = take (getD h (at + 1) 0) (drop (getD h at 0) e)

@@ -32,8 +32,8 @@ unfoldable pub firstLine : (ℕ → Bool) → ℕ → ℕ → ℕ → ℕ
 firstLine lacks base zero i = 0
 firstLine lacks base (suc d) i = elim (lacks i) [ true ↦ base + i | false ↦ firstLine lacks base d (i + 1) ]
 
-unfoldable pub traineeLacks : List ℕ → ℕ → Bool
-traineeLacks h i = eqb (getD h (traineeStart i + 1) 0) missingCell
+unfoldable pub traineeMissing : List ℕ → ℕ → Bool
+traineeMissing h i = eqb (getD h (traineeStart i + 1) 0) missingCell
 
-unfoldable pub depotLacks : List ℕ → ℕ → ℕ → Bool
-depotLacks h n j = eqb (getD h (depotStart n j + 1) 0) missingCell or eqb (getD h (depotStart n j + 2) 0) missingCell
+unfoldable pub depotMissing : List ℕ → ℕ → ℕ → Bool
+depotMissing h n j = eqb (getD h (depotStart n j + 2) 0) missingCell or eqb (getD h (depotStart n j + 1) 0) missingCell

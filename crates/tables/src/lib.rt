@@ -10,10 +10,10 @@ ghost use lib.ListN.{length, getD, drop};
 ghost use Rattle.meaning.specs.Numbers.{_&_};
 ghost use Rattle.meaning.specs.Lists.{weigh};
 ghost use Rattle.meaning.specs.Placement.{size, depotSize};
-ghost use Rattle.tables.specs.Cells.{traineeStart, depotStart, part, HeadRoom};
+ghost use Rattle.tables.specs.Cells.{traineeStart, depotStart, orderStart, part, HeadRoom};
 ghost use Rattle.tables.specs.Decode.{within, goodEntries, listFrom, postsFrom, traineeFrom, depotFrom, orderFrom, traineesFrom, depotsFrom, ordersFrom, limits, Sides, listsFrom, sidesOf, fewOrdersOf, placementOf};
 ghost use Rattle.tables.specs.Answers.{sized, fullSides, lackingLine, saidBy, receiptOf, traineeList, traineeReceipt};
-ghost use Rattle.tables.specs.Walk.{isSome, endOf, Ends, firstLine, traineeLacks, depotLacks};
+ghost use Rattle.tables.specs.Walk.{isSome, endOf, Ends, firstLine, traineeMissing, depotMissing};
 
 // A length or posts not received.
 pub const NOT_RECEIVED: usize = 65535;
@@ -24,6 +24,14 @@ fn cell(table: &[u16], at: usize) -> usize
     ensures { λ r. ⌜ r ≡ getD (now (table .entry)) at 0 ⌝ }
 {
     table[at] as usize
+}
+
+// The edition.
+fn edition_of(heads: &[u16]) -> usize
+    requires { ⌜ 2 < length (now heads) ⌝ }
+    ensures { λ r. ⌜ r ≡ getD (now (heads .entry)) 0 0 ⌝ }
+{
+    cell(heads, 0)
 }
 
 // The number of trainees.
@@ -88,6 +96,46 @@ pub fn entry_of(list: &[u16], p: usize) -> usize
     ensures { λ r. ⌜ r ≡ getD (now (list .entry)) p 0 ⌝ }
 {
     cell(list, p)
+}
+
+// The number of orders.
+pub fn orders_of(orders: &[u16]) -> usize
+    requires { ⌜ 0 < length (now orders) ⌝ }
+    ensures { λ r. ⌜ r ≡ getD (now (orders .entry)) 0 0 ⌝ }
+{
+    cell(orders, 0)
+}
+
+// Where the cells of the order stand that k others stand before.
+pub fn order_at(k: usize) -> usize
+    requires { ⌜ k ≤ 65535 ⌝ }
+    ensures { λ r. ⌜ r ≡ orderStart k ⌝ }
+{
+    3 * k + 1
+}
+
+// The kind of the order whose cells stand at `at`: 0 held, 1 barred.
+pub fn order_kind(orders: &[u16], at: usize) -> usize
+    requires { ⌜ at < length (now orders) ⌝ }
+    ensures { λ r. ⌜ r ≡ getD (now (orders .entry)) at 0 ⌝ }
+{
+    cell(orders, at)
+}
+
+// The trainee of the order whose cells stand at `at`.
+pub fn order_trainee(orders: &[u16], at: usize) -> usize
+    requires { ⌜ at + 1 < length (now orders) ⌝ }
+    ensures { λ r. ⌜ r ≡ getD (now (orders .entry)) (at + 1) 0 ⌝ }
+{
+    cell(orders, at + 1)
+}
+
+// The depot of the order whose cells stand at `at`.
+pub fn order_depot(orders: &[u16], at: usize) -> usize
+    requires { ⌜ at + 2 < length (now orders) ⌝ }
+    ensures { λ r. ⌜ r ≡ getD (now (orders .entry)) (at + 2) 0 ⌝ }
+{
+    cell(orders, at + 2)
 }
 
 // The list whose cells stand at `at`, as the part of the entries that holds it.
@@ -280,7 +328,7 @@ pub fn sides_ok(heads: &[u16], entries: &[u16]) -> bool
 {
     let n = trainees_of(heads);
     let m = depots_of(heads);
-    if !limits_ok(cell(heads, 0), n, m) {
+    if !limits_ok(edition_of(heads), n, m) {
         return false;
     }
     lists_ok(heads, entries, n, m)
@@ -301,13 +349,13 @@ fn order_ok(orders: &[u16], at: usize, n: usize, m: usize) -> bool
     requires { ⌜ at + 2 < length (now orders) ⌝ }
     ensures { λ r. ⌜ r ≡ isSome (orderFrom n m 0 (drop at (now (orders .entry))) []) ⌝ }
 {
-    if 1 < cell(orders, at) {
+    if 1 < order_kind(orders, at) {
         return false;
     }
-    if !in_range(cell(orders, at + 1), n) {
+    if !in_range(order_trainee(orders, at), n) {
         return false;
     }
-    in_range(cell(orders, at + 2), m)
+    in_range(order_depot(orders, at), m)
 }
 
 // Whether the first `count` orders are ones.
@@ -317,7 +365,7 @@ fn first_orders_ok(orders: &[u16], count: usize, n: usize, m: usize) -> bool
 {
     let mut k: usize = 0;
     while k < count {
-        if !order_ok(orders, 1 + 3 * k, n, m) {
+        if !order_ok(orders, order_at(k), n, m) {
             return false;
         }
         k += 1;
@@ -330,7 +378,7 @@ pub fn orders_ok(orders: &[u16], n: usize, m: usize) -> bool
     requires { ⌜ 3073 ≤ length (now orders) ⌝ }
     ensures { λ r. ⌜ r ≡ isSome (fewOrdersOf n m (now (orders .entry))) ⌝ }
 {
-    let count = cell(orders, 0);
+    let count = orders_of(orders);
     if 1024 < count {
         return false;
     }
@@ -351,7 +399,7 @@ pub fn used_cells_ok(heads: &[u16], entries: &[u16], orders: &[u16]) -> bool
 // The line of the first trainee whose list was not received; 0 for none.
 fn missing_trainee(heads: &[u16], n: usize) -> usize
     requires { ⌜ (3 + 2 * n ≤ length (now heads)) × (n ≤ 256) ⌝ }
-    ensures { λ r. ⌜ r ≡ firstLine (traineeLacks (now (heads .entry))) 1 n 1 ⌝ }
+    ensures { λ r. ⌜ r ≡ firstLine (traineeMissing (now (heads .entry))) 1 n 1 ⌝ }
 {
     let mut i: usize = 1;
     while i <= n {
@@ -363,22 +411,22 @@ fn missing_trainee(heads: &[u16], n: usize) -> usize
     0
 }
 
-// Whether depot j's list or posts were not received.
+// Whether depot j's posts or list were not received.
 fn depot_lacks(heads: &[u16], n: usize, j: usize) -> bool
     requires { ⌜ (2 * n + 3 * j + 2 < length (now heads)) × (n ≤ 256) × (j ≤ 64) ⌝ }
-    ensures { λ r. ⌜ r ≡ depotLacks (now (heads .entry)) n j ⌝ }
+    ensures { λ r. ⌜ r ≡ depotMissing (now (heads .entry)) n j ⌝ }
 {
     let at = depot_at(n, j);
-    if length_of(heads, at) == NOT_RECEIVED {
+    if posts_of(heads, at) == NOT_RECEIVED {
         return true;
     }
-    posts_of(heads, at) == NOT_RECEIVED
+    length_of(heads, at) == NOT_RECEIVED
 }
 
-// The line of the first depot whose list or posts were not received; 0 for none.
+// The line of the first depot whose posts or list were not received; 0 for none.
 fn missing_depot(heads: &[u16], n: usize, m: usize) -> usize
     requires { ⌜ (3 + 2 * n + 3 * m ≤ length (now heads)) × (n ≤ 256) × (m ≤ 64) ⌝ }
-    ensures { λ r. ⌜ r ≡ firstLine (depotLacks (now (heads .entry)) n) (n + 1) m 1 ⌝ }
+    ensures { λ r. ⌜ r ≡ firstLine (depotMissing (now (heads .entry)) n) (n + 1) m 1 ⌝ }
 {
     let mut j: usize = 1;
     while j <= m {

@@ -3,13 +3,13 @@ use Prim.Native.Nat.{_+_, _-_, _≤_}
 use mathlib.Core.Path.{_≡_, sym, ap, _∙_}
 use native.Mathlib.Omega.{arith}
 use lib.ListN.{getD}
-use Rattle.tables.specs.Walk.{firstLine, traineeLacks}
+use Rattle.tables.specs.Walk.{firstLine, traineeMissing}
 use Rattle.tables.proofs.Lines.{line-here, line-more, line-none, trainee-lacks, trainee-has}
 use Rattle.tables.proofs.missing_trainee.Statement.{statement}
 use Rattle.tables.proofs.missing_trainee.Tie as tie
 
 abbrev Inv-loop : tie.InvT-loop
-Inv-loop heads n i₀ i = (1 ≤ i) × (i ≤ n + 1) × (firstLine (traineeLacks heads) 1 n 1 ≡ firstLine (traineeLacks heads) 1 (n + 1 - i) i)
+Inv-loop heads n i₀ i = (1 ≤ i) × (i ≤ n + 1) × (firstLine (traineeMissing heads) 1 n 1 ≡ firstLine (traineeMissing heads) 1 (n + 1 - i) i)
 
 abbrev μ-loop : tie.MeasureT-loop
 μ-loop heads n i₀ i = n + 1 - i
@@ -31,7 +31,7 @@ returns c =
     let a = c .before .before .before .before .before .before .args in
     let l = c .before .before .before .before .loop in
     let q = ap (λ x. getD (a .heads .now) (x + 1) 0) (sym (c .before .before .trainee-at .ensures)) ∙ sym (c .before .length-of .ensures) in
-    line-here (traineeLacks (a .heads .now)) 1 (a .n + 1 - l .i) (l .i) _ (l .inv .2) (a .n - l .i) (omega arith) (trainee-lacks (a .heads .now) (l .i) (q ∙ c .if1 .taken))
+    line-here (traineeMissing (a .heads .now)) 1 (a .n + 1 - l .i) (l .i) _ (l .inv .2) (a .n - l .i) (omega arith) (trainee-lacks (a .heads .now) (l .i) (q ∙ c .if1 .taken))
 
 add-i : tie.Need-add-i Inv-loop μ-loop
 add-i c = omega arith
@@ -44,13 +44,13 @@ loop-again c =
     let a = c .before .before .before .before .before .before .args in
     let l = c .before .before .before .before .loop in
     let q = ap (λ x. getD (a .heads .now) (x + 1) 0) (sym (c .before .before .trainee-at .ensures)) ∙ sym (c .before .length-of .ensures) in
-    (omega arith, omega arith, line-more (traineeLacks (a .heads .now)) 1 (a .n + 1 - l .i) (l .i) _ (l .inv .2) (a .n + 1 - (l .i + 1)) (omega arith) (trainee-has (a .heads .now) (l .i) (λ w. c .if1 .left (sym q ∙ w))))
+    (omega arith, omega arith, line-more (traineeMissing (a .heads .now)) 1 (a .n + 1 - l .i) (l .i) _ (l .inv .2) (a .n + 1 - (l .i + 1)) (omega arith) (trainee-has (a .heads .now) (l .i) (λ w. c .if1 .left (sym q ∙ w))))
 
 returns-2 : tie.Need-returns-2 Inv-loop μ-loop
 returns-2 c =
     let a = c .before .before .before .args in
     let l = c .before .loop in
-    line-none (traineeLacks (a .heads .now)) 1 (a .n + 1 - l .i) (l .i) _ (l .inv .2) (omega arith)
+    line-none (traineeMissing (a .heads .now)) 1 (a .n + 1 - l .i) (l .i) _ (l .inv .2) (omega arith)
 
 pub missing-trainee-spec : {M : Type 1} → statement M
 missing-trainee-spec =

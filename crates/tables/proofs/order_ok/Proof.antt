@@ -4,21 +4,18 @@ use native.Mathlib.Omega.{arith}
 use borrow.Author.Tests.{not-true, not-false}
 use borrow.Author.Needs.{needs}
 use Rattle.tables.specs.Decode.{within}
-use Rattle.tables.proofs.Walk.{order-kind, order-first, order-second}
+use Rattle.tables.proofs.Walk.{order-unkind, order-first, order-second}
 use Rattle.tables.proofs.order_ok.Statement.{statement}
 use Rattle.tables.proofs.order_ok.Tie as tie
 
-cell-requires : tie.Need-cell-requires
-cell-requires c κs = search needs
+order-kind-requires : tie.Need-order-kind-requires
+order-kind-requires c κs = search needs
 
 returns : tie.Need-returns
-returns c = let a = c .before .before .before .args in order-kind (a .n) (a .m) (a .at) (a .orders .now) (omega arith) (omega arith)
+returns c = let a = c .before .before .before .args in order-unkind (a .n) (a .m) (a .at) (a .orders .now) (omega arith) (omega arith)
 
-add-cell : tie.Need-add-cell
-add-cell c = search needs
-
-cell-requires-2 : tie.Need-cell-requires-2
-cell-requires-2 c κs = search needs
+order-trainee-requires : tie.Need-order-trainee-requires
+order-trainee-requires c κs = search needs
 
 in-range-requires : tie.Need-in-range-requires
 in-range-requires c κs = search needs
@@ -26,13 +23,10 @@ in-range-requires c κs = search needs
 returns-2 : tie.Need-returns-2
 returns-2 c =
     let a = c .before .before .before .before .before .before .args in
-    order-first (a .n) (a .m) (a .at) (a .orders .now) (omega arith) (omega arith) (sym (c .before .in-range .ensures ∙ ap (within (a .n)) (c .before .before .cell2 .ensures)) ∙ not-true _ (c .if2 .taken))
+    order-first (a .n) (a .m) (a .at) (a .orders .now) (omega arith) (omega arith) (sym (c .before .in-range .ensures ∙ ap (within (a .n)) (c .before .before .order-trainee .ensures)) ∙ not-true _ (c .if2 .taken))
 
-add-cell-2 : tie.Need-add-cell-2
-add-cell-2 c = search needs
-
-cell-requires-3 : tie.Need-cell-requires-3
-cell-requires-3 c κs = search needs
+order-depot-requires : tie.Need-order-depot-requires
+order-depot-requires c κs = search needs
 
 in-range-requires-2 : tie.Need-in-range-requires-2
 in-range-requires-2 c κs = search needs
@@ -40,20 +34,18 @@ in-range-requires-2 c κs = search needs
 returns-3 : tie.Need-returns-3
 returns-3 c =
     let a = c .before .before .before .before .before .before .before .before .args in
-    c .in-range2 .ensures ∙ ap (within (a .m)) (c .before .cell3 .ensures)
-    ∙ order-second (a .n) (a .m) (a .at) (a .orders .now) (omega arith) (omega arith) (sym (c .before .before .before .in-range .ensures ∙ ap (within (a .n)) (c .before .before .before .before .cell2 .ensures)) ∙ not-false _ (c .before .before .if2 .left))
+    c .in-range2 .ensures ∙ ap (within (a .m)) (c .before .order-depot .ensures)
+    ∙ order-second (a .n) (a .m) (a .at) (a .orders .now) (omega arith) (omega arith) (sym (c .before .before .before .in-range .ensures ∙ ap (within (a .n)) (c .before .before .before .before .order-trainee .ensures)) ∙ not-false _ (c .before .before .if2 .left))
 
 pub order-ok-spec : {M : Type 1} → statement M
 order-ok-spec =
     tie.close
     (tie.spec
-    cell-requires
+    order-kind-requires
     returns
-    add-cell
-    cell-requires-2
+    order-trainee-requires
     in-range-requires
     returns-2
-    add-cell-2
-    cell-requires-3
+    order-depot-requires
     in-range-requires-2
     returns-3)

@@ -9,8 +9,8 @@ use Rattle.tables.proofs.Walk.{orders-many, orders-few}
 use Rattle.tables.proofs.orders_ok.Statement.{statement}
 use Rattle.tables.proofs.orders_ok.Tie as tie
 
-cell-requires : tie.Need-cell-requires
-cell-requires c κs = search needs
+orders-of-requires : tie.Need-orders-of-requires
+orders-of-requires c κs = search needs
 
 returns : tie.Need-returns
 returns c = let a = c .before .before .before .args in orders-many (a .n) (a .m) (a .orders .now) (omega arith) (omega arith)
@@ -21,8 +21,8 @@ first-orders-ok-requires c κs = search needs
 returns-2 : tie.Need-returns-2
 returns-2 c =
     let a = c .before .before .before .before .args in
-    c .first-orders-ok .ensures ∙ ap (λ k. isSome (ordersFrom (a .n) (a .m) k (drop 1 (a .orders .now)))) (c .before .before .cell .ensures)
+    c .first-orders-ok .ensures ∙ ap (λ k. isSome (ordersFrom (a .n) (a .m) k (drop 1 (a .orders .now)))) (c .before .before .orders-of .ensures)
     ∙ orders-few (a .n) (a .m) (a .orders .now) (omega arith) (omega arith)
 
 pub orders-ok-spec : {M : Type 1} → statement M
-orders-ok-spec = tie.close (tie.spec cell-requires returns first-orders-ok-requires returns-2)
+orders-ok-spec = tie.close (tie.spec orders-of-requires returns first-orders-ok-requires returns-2)

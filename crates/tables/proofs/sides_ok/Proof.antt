@@ -14,8 +14,8 @@ trainees-of-requires c κs = search needs
 depots-of-requires : tie.Need-depots-of-requires
 depots-of-requires c κs = search needs
 
-cell-requires : tie.Need-cell-requires
-cell-requires c κs = search needs
+edition-of-requires : tie.Need-edition-of-requires
+edition-of-requires c κs = search needs
 
 limits-ok-requires : tie.Need-limits-ok-requires
 limits-ok-requires c κs = search needs
@@ -23,7 +23,7 @@ limits-ok-requires c κs = search needs
 returns : tie.Need-returns
 returns c =
     let a = c .before .before .before .before .before .before .before .args in
-    sides-limits (a .heads .now) (a .entries .now) (omega arith) _ _ _ (c .before .before .cell .ensures) (c .before .before .before .before .trainees-of .ensures) (c .before .before .before .depots-of .ensures) (sym (c .before .limits-ok .ensures) ∙ not-true _ (c .if1 .taken))
+    sides-limits (a .heads .now) (a .entries .now) (omega arith) _ _ _ (c .before .before .edition-of .ensures) (c .before .before .before .before .trainees-of .ensures) (c .before .before .before .depots-of .ensures) (sym (c .before .limits-ok .ensures) ∙ not-true _ (c .if1 .taken))
 
 lists-ok-requires : tie.Need-lists-ok-requires
 lists-ok-requires c κs =
@@ -34,7 +34,7 @@ returns-2 : tie.Need-returns-2
 returns-2 c =
     let a = c .before .before .before .before .before .before .before .before .args in
     c .lists-ok .ensures
-    ∙ sides-lists (a .heads .now) (a .entries .now) (omega arith) _ _ _ (c .before .before .before .cell .ensures) (c .before .before .before .before .before .trainees-of .ensures) (c .before .before .before .before .depots-of .ensures) (sym (c .before .before .limits-ok .ensures) ∙ not-false _ (c .before .if1 .left))
+    ∙ sides-lists (a .heads .now) (a .entries .now) (omega arith) _ _ _ (c .before .before .before .edition-of .ensures) (c .before .before .before .before .before .trainees-of .ensures) (c .before .before .before .before .depots-of .ensures) (sym (c .before .before .limits-ok .ensures) ∙ not-false _ (c .before .if1 .left))
 
 pub sides-ok-spec : {M : Type 1} → statement M
 sides-ok-spec =
@@ -42,7 +42,7 @@ sides-ok-spec =
     (tie.spec
     trainees-of-requires
     depots-of-requires
-    cell-requires
+    edition-of-requires
     limits-ok-requires
     returns
     lists-ok-requires
