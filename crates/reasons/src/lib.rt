@@ -28,7 +28,7 @@ pub struct Tally {
 }
 
 // A number of a table, to count with.
-fn wide(x: u16) -> usize
+pub fn wide(x: u16) -> usize
     ensures { λ r. ⌜ r ≡ x ⌝ }
 {
     x as usize
@@ -49,7 +49,7 @@ fn how_far(p: usize, first: usize) -> usize
 }
 
 // The same for trainee k and depot j; 0 where k doesn't rank it.
-fn settled_with(heads: &[u16], entries: &[u16], rows: &[u64], j: usize, k: usize) -> usize
+pub fn settled_with(heads: &[u16], entries: &[u16], rows: &[u64], j: usize, k: usize) -> usize
     requires { ⌜ FullTables (now heads) (now entries) × In (nOf (now heads)) k × (k < length (now rows)) ⌝ }
     ensures { λ r. ⌜ r ≡ settledBy (settled (now (heads .entry)) (now (entries .entry)) (now (rows .entry)) 1 j k) (settled (now (heads .entry)) (now (entries .entry)) (now (rows .entry)) 0 j k) ⌝ }
 {
@@ -62,7 +62,7 @@ fn settled_with(heads: &[u16], entries: &[u16], rows: &[u64], j: usize, k: usize
 }
 
 // One more, if it passed.
-fn counted(passes: bool, c: usize) -> usize
+pub fn counted(passes: bool, c: usize) -> usize
     requires { ⌜ c ≤ 65535 ⌝ }
     ensures { λ r. ⌜ r ≡ bit passes + c ⌝ }
 {
@@ -70,7 +70,7 @@ fn counted(passes: bool, c: usize) -> usize
 }
 
 // The smaller of k, if it passed, and what was found so far.
-fn smaller_if(passes: bool, k: u16, w: u16) -> u16
+pub fn smaller_if(passes: bool, k: u16, w: u16) -> u16
     ensures { λ r. ⌜ r ≡ smallerIf passes k w ⌝ }
 {
     if passes {
@@ -85,7 +85,7 @@ fn smaller_if(passes: bool, k: u16, w: u16) -> u16
 }
 
 // A pass along a part of depot j's list: each trainee's list is searched once, for reasons 3 and 4 together.
-fn pass_along(heads: &[u16], entries: &[u16], rows: &[u64], part: &[u16], j: usize) -> Tally
+pub fn pass_along(heads: &[u16], entries: &[u16], rows: &[u64], part: &[u16], j: usize) -> Tally
     requires { ⌜ FullTables (now heads) (now entries) × Names (nOf (now heads)) (now part) × (nOf (now heads) < length (now rows)) × (length (now part) ≤ 65535) ⌝ }
     ensures { λ r. ⌜ (r .settled ≡ countIn (settled (now (heads .entry)) (now (entries .entry)) (now (rows .entry)) 1 j) (now (part .entry)))
         × (r .passed ≡ leastIn (settled (now (heads .entry)) (now (entries .entry)) (now (rows .entry)) 0 j) (now (part .entry)) 0) ⌝ }
