@@ -6,10 +6,12 @@ use mathlib.Core.Path.{_≡_}
 use mathlib.Core.Option.{Option, none, some}
 use mathlib.Core.List.{List}
 use lib.ListN.{length, drop}
-use lib.Seq.{sets}
-use Rattle.fields.specs.Reader.{Step, got, refusal, figure, number, keyword}
+use lib.Seq.{slice, sets}
+use Rattle.fields.specs.Reader.{Step, got, refusal, field, figure, number, keyword}
 use Rattle.fields.specs.declared.Num.{Num}
 use Rattle.fields.specs.declared.Num.the-variants.{Value, Not}
+use Rattle.fields.specs.declared.Field.{Field}
+use Rattle.fields.specs.declared.Field.the-variants.{Word, Missing}
 use Rattle.fields.specs.declared.Figure.{Figure}
 use Rattle.fields.specs.declared.Figure.the-variants.{Is, Wrong}
 use Rattle.fields.specs.declared.Ranged.{Ranged}
@@ -31,6 +33,16 @@ pub record On {A : Type 0} (s : List ℕ) (step : ℕ → Step A) (a : A) (next 
 -- the step is refused e, at its field
 abbrev pub Refused : {A : Type 0} → (ℕ → Step A) → ℕ → Type 0
 Refused step e = (k : ℕ) → step k ≡ refusal e 0 k
+
+-- the word of a field stands from one position to another
+pub record WordFrom (s : List ℕ) (at from to : ℕ) : Type 0 where
+  pub goes : (k : ℕ) → field k (drop at s) ≡ got (slice from to s) (drop to s)
+  pub upward : from ≤ to
+  pub within : to ≤ length s
+
+abbrev pub FieldRead : List ℕ → ℕ → Field → Type 0
+FieldRead s at (Word from to) = WordFrom s at from to
+FieldRead s at Missing = Refused (λ k. field k (drop at s)) 3
 
 abbrev pub FigureRead : List ℕ → ℕ → Figure → Type 0
 FigureRead s at (Is v next) = On s (λ k. figure k (drop at s)) v next

@@ -9,12 +9,18 @@ ghost use Rattle.fields.specs.Bytes.{wordOf, same};
 ghost use Rattle.fields.specs.Number.{value, numberOf, digitsOf};
 ghost use Rattle.fields.specs.Reader.{running, lineEnd};
 ghost use Rattle.fields.specs.Writer.{writeNumber};
-ghost use Rattle.fields.specs.Leaves.{numOf, FigureRead, NumberRead, FoundRead, KeywordRead, Put};
+ghost use Rattle.fields.specs.Leaves.{numOf, FieldRead, FigureRead, NumberRead, FoundRead, KeywordRead, Put};
 
 // A word as a number.
 pub enum Num {
     Value(u32),
     Not,
+}
+
+// The word of a field: where it starts and where it stopped.
+pub enum Field {
+    Word(usize, usize),
+    Missing,
 }
 
 // A number in a field, and where it stopped.
@@ -94,23 +100,35 @@ pub fn number_in(s: &[u8], from: usize, to: usize) -> Num
     value_in(s, from, to)
 }
 
+// The field at `at`.
+pub fn field_at(s: &[u8], at: usize) -> Field
+    requires { ⌜ at ≤ length (now s) ⌝ }
+    ensures { λ r. ⌜ FieldRead (now (s .entry)) at r ⌝ }
+{
+    if s.len() <= at {
+        return Field::Missing;
+    }
+    if s[at] != 9 {
+        return Field::Missing;
+    }
+    Field::Word(at + 1, word_end(s, at + 1))
+}
+
 // The number in the field at `at`.
 pub fn figure_at(s: &[u8], at: usize) -> Figure
     requires { ⌜ at ≤ length (now s) ⌝ }
     ensures { λ r. ⌜ FigureRead (now (s .entry)) at r ⌝ }
 {
-    if s.len() <= at {
-        return Figure::Wrong;
-    }
-    if s[at] != 9 {
-        return Figure::Wrong;
-    }
-    let from = at + 1;
-    let to = word_end(s, from);
-    let n = number_in(s, from, to);
-    match n {
-        Num::Value(v) => Figure::Is(v, to),
-        Num::Not => Figure::Wrong,
+    let w = field_at(s, at);
+    match w {
+        Field::Missing => Figure::Wrong,
+        Field::Word(from, to) => {
+            let n = number_in(s, from, to);
+            match n {
+                Num::Value(v) => Figure::Is(v, to),
+                Num::Not => Figure::Wrong,
+            }
+        }
     }
 }
 

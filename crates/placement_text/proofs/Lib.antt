@@ -6,3 +6,4 @@ pub mod Sides
 pub mod Pairs
 pub mod Short
 pub mod Round
+pub mod Ways

@@ -2,4 +2,6 @@
 pub mod Words
 pub mod Writer
 pub mod Reader
+pub mod Cells
+pub mod Code
 pub mod Examples
