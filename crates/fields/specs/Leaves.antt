@@ -7,7 +7,7 @@ use mathlib.Core.Option.{Option, none, some}
 use mathlib.Core.List.{List}
 use lib.ListN.{length, drop}
 use lib.Seq.{slice, sets}
-use Rattle.fields.specs.Reader.{Step, got, refusal, field, figure, number, keyword}
+use Rattle.fields.specs.Reader.{Step, got, refusal, field, figure, number, running, lineEnd, keyword, numbered}
 use Rattle.fields.specs.declared.Num.{Num}
 use Rattle.fields.specs.declared.Num.the-variants.{Value, Not}
 use Rattle.fields.specs.declared.Field.{Field}
@@ -18,6 +18,8 @@ use Rattle.fields.specs.declared.Ranged.{Ranged}
 use Rattle.fields.specs.declared.Ranged.the-variants.{Is as RangedIs, Not as RangedNot}
 use Rattle.fields.specs.declared.Found.{Found}
 use Rattle.fields.specs.declared.Found.the-variants.{To, Wrong as NotFound}
+use Rattle.fields.specs.declared.Numbered.{Numbered}
+use Rattle.fields.specs.declared.Numbered.the-variants.{To as NumberedTo, Wrong as NotNumbered}
 
 abbrev pub numOf : Option ℕ → Num
 numOf (some v) = Value v
@@ -56,10 +58,21 @@ abbrev pub FoundRead : List ℕ → (ℕ → Step (Unit {0})) → Found → Type
 FoundRead s step (To next) = On s step tt next
 FoundRead s step NotFound = Refused step 3
 
+abbrev pub RunningRead : List ℕ → ℕ → ℕ → Found → Type 0
+RunningRead s at v r = FoundRead s (λ k. running k v (drop at s)) r
+
+abbrev pub EndRead : List ℕ → ℕ → Found → Type 0
+EndRead s at r = FoundRead s (λ k. lineEnd k (drop at s)) r
+
 -- a keyword is the field 1
 abbrev pub KeywordRead : List ℕ → ℕ → List ℕ → Found → Type 0
 KeywordRead s at w (To next) = On s (λ _. keyword w (drop at s)) tt next
 KeywordRead s at w NotFound = keyword w (drop at s) ≡ refusal 3 0 1
+
+-- the word is the field 1, and the running number the field 2
+abbrev pub NumberedRead : List ℕ → ℕ → List ℕ → ℕ → Numbered → Type 0
+NumberedRead s at w i (NumberedTo next) = On s (λ _. numbered w i (drop at s)) tt next
+NumberedRead s at w i (NotNumbered f) = numbered w i (drop at s) ≡ refusal 3 0 f
 
 -- ---- writing
 

@@ -7,3 +7,4 @@ pub mod Pairs
 pub mod Short
 pub mod Round
 pub mod Ways
+pub mod Turns

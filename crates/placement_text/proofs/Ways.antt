@@ -4,7 +4,7 @@ use Prim.Native.Nat.{ℕ, suc, _+_, _-_, _≤_, _<_}
 use mathlib.Core.Path.{_≡_, refl, sym, ap, _∙_}
 use mathlib.Core.Logic.{⊎-elim}
 use mathlib.Core.Bool.{Bool, true, false}
-use mathlib.Core.Option.{none, some}
+use mathlib.Core.Option.{Option, none, some}
 use mathlib.Core.List.{List, [], _∷_, _++_}
 use native.Mathlib.Omega.{arith}
 use native.Mathlib.Nat.{sub-zero, add-zero}
@@ -12,15 +12,18 @@ use lib.ListN.{length, getD, drop, set, replicate, length-set, length-append, ge
 use lib.Seq.{sets, length-sets, getD-set-same, getD-set-other}
 use borrow.Author.Tests.{le-leb, lt-leb, eq-eqb, ne-eqb}
 use Rattle.meaning.specs.Lists.{member}
+use Rattle.meaning.specs.Placement.{size}
 use Rattle.meaning.proofs.Numbers.{same as same-or-not}
 use Rattle.fields.specs.Bytes.{same}
 use Rattle.fields.specs.Number.{numberOf}
-use Rattle.fields.specs.Reader.{got, refusal, unless, field, formed, number}
+use Rattle.fields.specs.Reader.{Step, got, refusal, unless, field, lineEnd, formed, number}
 use Rattle.fields.proofs.Words.{number-back}
 use Rattle.fields.proofs.Puts.{sets-append}
 use Rattle.placement_text.specs.Words.{word-?}
-use Rattle.placement_text.specs.Reader.{orMissing, received, entry, entries}
-use Rattle.placement_text.specs.Code.{Filled}
+use Rattle.placement_text.specs.Reader.{orMissing, received, entry, entries, MOST, listed, list}
+use Rattle.placement_text.specs.Cells.{lengthCell, listCells, traineeCells}
+use Rattle.placement_text.specs.Code.{Filled, Row}
+use Rattle.placement_text.proofs.Lists.{entries-back}
 
 -- ---- a number or `?`
 
@@ -166,3 +169,64 @@ module _ {s : List ℕ} {at count k hi start : ℕ} {t₀ t : List ℕ} {marks :
   entries-done h =
       let n : count - c ≡ 0 = omega arith in
       record { es = T .es; goes = T .goes ∙ rw n; within = T .within; cells = T .cells }
+
+-- ---- a list
+
+entries-count : (c k hi : ℕ) (q : List ℕ) {es r : List ℕ} → entries c k hi [] q ≡ got es r → length es ≡ c
+entries-count c k hi q e = let b = entries-back c k hi [] q e in ap length (b .all) ∙ b .count
+
+module _ (k hi total c : ℕ) (q : List ℕ) where
+  pub listed-much : MOST < total + c → listed k hi total (some c) q ≡ refusal 6 0 k
+  unfolding listed unless
+  listed-much h = rw (lt-leb (total + c) MOST h)
+
+  module _ (h : total + c ≤ MOST) where
+    pub listed-refused : {x f : ℕ} → entries c (k + 1) hi [] q ≡ refusal x 0 f → listed k hi total (some c) q ≡ refusal x 0 f
+    unfolding listed unless
+    listed-refused e = rw (le-leb (total + c) MOST h) (rw e)
+
+    pub listed-no-end : {es r : List ℕ} → entries c (k + 1) hi [] q ≡ got es r → lineEnd (k + 1 + c) r ≡ refusal 3 0 (k + 1 + c)
+        → listed k hi total (some c) q ≡ refusal 3 0 (k + 1 + c)
+    unfolding listed unless
+    listed-no-end e f = rw (le-leb (total + c) MOST h) (rw e (rw f))
+
+    pub listed-whole : {es r r′ : List ℕ} → entries c (k + 1) hi [] q ≡ got es r → lineEnd (k + 1 + c) r ≡ got tt r′ → listed k hi total (some c) q ≡ got (some es) r′
+    unfolding listed unless
+    listed-whole e f = rw (le-leb (total + c) MOST h) (rw e (rw f))
+
+pub counted-row : {s : List ℕ} (k hi total c at start : ℕ) {t t′ : List ℕ} {p next : ℕ} → total + c ≤ MOST
+    → Filled s (entries c (k + 1) hi [] (drop at s)) start t t′ p → lineEnd (k + 1 + c) (drop p s) ≡ got tt (drop next s) → next ≤ length s
+    → Row size traineeCells listCells s (listed k hi total (some c) (drop at s)) start t t′ (start ∷ c ∷ []) c next
+unfolding size traineeCells lengthCell listCells
+counted-row {s} k hi total c at start h F e w =
+    let n = entries-count c (k + 1) hi (drop at s) (F .goes) in
+    record {
+      it = some (F .es);
+      goes = listed-whole k hi total c (drop at s) h (F .goes) e;
+      within = w;
+      head = ap (λ x. start ∷ x ∷ []) (sym n);
+      size = sym n;
+      stored = F .cells;
+    }
+
+module _ (k hi total : ℕ) (q : List ℕ) where
+  pub list-refused : {x : ℕ} → received k hi q ≡ refusal x 0 k → list k hi total q ≡ refusal x 0 k
+  unfolding list
+  list-refused e = rw e
+
+  pub list-no-end : {r : List ℕ} → received k hi q ≡ got none r → lineEnd (k + 1) r ≡ refusal 3 0 (k + 1) → list k hi total q ≡ refusal 3 0 (k + 1)
+  unfolding list listed
+  list-no-end e f = rw e (rw f)
+
+  pub list-missing : {r r′ : List ℕ} → received k hi q ≡ got none r → lineEnd (k + 1) r ≡ got tt r′ → list k hi total q ≡ got none r′
+  unfolding list listed
+  list-missing e f = rw e (rw f)
+
+  pub list-counted : {r : List ℕ} {c : ℕ} → received k hi q ≡ got (some c) r → list k hi total q ≡ listed k hi total (some c) r
+  unfolding list
+  list-counted e = rw e
+
+pub missing-row : {s : List ℕ} (step : Step (Option (List ℕ))) (start : ℕ) (t : List ℕ) {next : ℕ} → step ≡ got none (drop next s) → next ≤ length s
+    → Row size traineeCells listCells s step start t t (start ∷ 65535 ∷ []) 0 next
+unfolding size traineeCells lengthCell listCells
+missing-row step start t e w = record { it = none; goes = e; within = w; head = refl; size = refl; stored = refl }

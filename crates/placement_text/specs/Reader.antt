@@ -10,7 +10,7 @@ use Rattle.meaning.specs.Lists.{member}
 use Rattle.meaning.specs.Placement.{Kind, held, barred, Order, Depot, depot, Placement, size, depotSize}
 use Rattle.fields.specs.Bytes.{wordOf, restOf, same, word-end}
 use Rattle.fields.specs.Number.{numberOf}
-use Rattle.fields.specs.Reader.{Step, got, refusal, Reader, next, _>>=_, _>>_, pure, unless, line, field, lineEnd, keyword, atEnd, formed, number, running, lines}
+use Rattle.fields.specs.Reader.{Step, got, refusal, Reader, next, _>>=_, _>>_, pure, unless, line, field, lineEnd, keyword, atEnd, formed, number, running, numbered, lines}
 use Rattle.placement_text.specs.Words.{word-placement, word-T, word-D, word-F, word-X, word-?}
 
 -- ---- a number that may not have been received
@@ -66,8 +66,7 @@ list k hi total = received k hi >>= listed k hi total
 -- trainee i stands on the line i + 1
 unfoldable pub traineeFields : ℕ → ℕ → ℕ → Reader (Option (List ℕ))
 traineeFields m i total = do
-  keyword word-T
-  running 2 i
+  numbered word-T i
   list 3 m total
 
 unfoldable pub traineeLine : ℕ → ℕ → ℕ → Reader (Option (List ℕ))
@@ -83,8 +82,7 @@ depotOf n total = do
 -- depot j stands on the line n + j + 1
 unfoldable pub depotFields : ℕ → ℕ → ℕ → Reader Depot
 depotFields n j total = do
-  keyword word-D
-  running 2 j
+  numbered word-D j
   depotOf n total
 
 unfoldable pub depotLine : ℕ → ℕ → ℕ → Reader Depot

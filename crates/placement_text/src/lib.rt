@@ -3,13 +3,16 @@
 ghost use mathlib.Core.Path.{_≡_};
 ghost use mathlib.Core.Option.{some};
 ghost use mathlib.Core.List.{[]};
-ghost use Prim.Native.Nat.{_+_, _≤_};
+ghost use Prim.Native.Nat.{_+_, _*_, _≤_};
 ghost use lib.ListN.{length, drop};
-ghost use Rattle.placement_text.specs.Reader.{entries, listed, list};
-ghost use Rattle.placement_text.specs.Code.{ReceivedRead, EntriesRead, ListedRead};
+ghost use Rattle.meaning.specs.Placement.{size};
+ghost use Rattle.fields.specs.Reader.{lines};
+ghost use Rattle.placement_text.specs.Reader.{entries, listed, list, traineeFields, traineeLine, depotOf, depotFields, depotLine};
+ghost use Rattle.placement_text.specs.Code.{ReceivedRead, EntriesRead, ListedRead, PostsRead, DepotRead, TraineesRead};
 use fields::Field;
 use fields::Found;
 use fields::Num;
+use fields::Numbered;
 use fields::Ranged;
 
 // A number or `?`, and where it stopped; or the number of the refusal, 3 or 4.
@@ -29,6 +32,24 @@ pub enum Entries {
 pub enum Listed {
     To(u16, usize, usize),
     Refused(u16, usize),
+}
+
+// Posts: their cell, and where they stopped; or the number of the refusal, 3 or 4.
+pub enum Posts {
+    To(u16, usize),
+    Not(u16),
+}
+
+// A depot: the cells of its posts and its length, how many entries it has, and where its line stopped; or the refusal's number and field.
+pub enum DepotRow {
+    To(u16, u16, usize, usize),
+    Refused(u16, usize),
+}
+
+// The lines of a side: how many entries they have together, and where they stopped; or the refusal's number, line and field.
+pub enum Side {
+    To(usize, usize),
+    Refused(u16, usize, usize),
 }
 
 // A number of 0 to hi in the field at `at`, or `?`.
@@ -92,4 +113,159 @@ fn entries_at(
         }
     }
     Entries::To(p)
+}
+
+// After the length of a list, `count` in the field k: the entries and the end of the line.
+fn counted_at(
+    s: &[u8],
+    at: usize,
+    k: usize,
+    count: u16,
+    hi: u16,
+    total: usize,
+    t: &mut [u16],
+    start: usize,
+) -> Listed
+    requires { ⌜ (at ≤ length (now s)) × (k ≤ 4) × (hi ≤ 256) × (total ≤ 4096) × (start ≤ total + 4096) × (8192 ≤ length (now t)) ⌝ }
+    ensures { λ r. ⌜ ListedRead (now (s .entry)) (listed k hi total (some count) (drop at (now (s .entry)))) start (now (t .entry)) (now (t .exit)) r ⌝ }
+{
+    let size = count as usize;
+    if 4096 < total + size {
+        return Listed::Refused(6, k);
+    }
+    let e = entries_at(s, at, size, k + 1, hi, t, start);
+    match e {
+        Entries::Refused(x, f) => Listed::Refused(x, f),
+        Entries::To(p) => {
+            let f = fields::line_end_at(s, p);
+            match f {
+                Found::To(next) => Listed::To(count, size, next),
+                Found::Wrong => Listed::Refused(3, k + 1 + size),
+            }
+        }
+    }
+}
+
+// A list whose length stands in the field k, at `at`; its side has `total` entries above, and its own go to the cells of t from `start` on.
+fn list_at(
+    s: &[u8],
+    at: usize,
+    k: usize,
+    hi: u16,
+    total: usize,
+    t: &mut [u16],
+    start: usize,
+) -> Listed
+    requires { ⌜ (at ≤ length (now s)) × (k ≤ 4) × (hi ≤ 256) × (total ≤ 4096) × (start ≤ total + 4096) × (8192 ≤ length (now t)) ⌝ }
+    ensures { λ r. ⌜ ListedRead (now (s .entry)) (list k hi total (drop at (now (s .entry)))) start (now (t .entry)) (now (t .exit)) r ⌝ }
+{
+    let l = received_at(s, at, hi);
+    match l {
+        Received::Not(x) => Listed::Refused(x, k),
+        Received::Missing(p) => {
+            let f = fields::line_end_at(s, p);
+            match f {
+                Found::To(next) => Listed::To(65535, 0, next),
+                Found::Wrong => Listed::Refused(3, k + 1),
+            }
+        }
+        Received::Is(count, p) => counted_at(s, p, k, count, hi, total, t, start),
+    }
+}
+
+// The line of trainee i: its side has `total` entries above, and its own go to the cells of t from `start` on.
+fn trainee_at(
+    s: &[u8],
+    at: usize,
+    m: u16,
+    i: u16,
+    total: usize,
+    t: &mut [u16],
+    start: usize,
+) -> Listed
+    requires { ⌜ (at ≤ length (now s)) × (m ≤ 64) × (total ≤ 4096) × (start ≤ total + 4096) × (8192 ≤ length (now t)) ⌝ }
+    ensures { λ r. ⌜ ListedRead (now (s .entry)) (traineeFields m i total (drop at (now (s .entry)))) start (now (t .entry)) (now (t .exit)) r ⌝ }
+{
+    let w = fields::numbered_at(s, at, b"T", i);
+    match w {
+        Numbered::Wrong(f) => Listed::Refused(3, f),
+        Numbered::To(p) => list_at(s, p, 3, m, total, t, start),
+    }
+}
+
+// Posts in the field at `at`.
+fn posts_at(s: &[u8], at: usize) -> Posts
+    requires { ⌜ at ≤ length (now s) ⌝ }
+    ensures { λ r. ⌜ PostsRead (now (s .entry)) at r ⌝ }
+{
+    let p = received_at(s, at, 256);
+    match p {
+        Received::Not(x) => Posts::Not(x),
+        Received::Missing(next) => Posts::To(65535, next),
+        Received::Is(v, next) => Posts::To(v, next),
+    }
+}
+
+// Posts and list of a depot, the posts in the field 3, at `at`.
+fn depot_of(s: &[u8], at: usize, n: u16, total: usize, t: &mut [u16], start: usize) -> DepotRow
+    requires { ⌜ (at ≤ length (now s)) × (n ≤ 256) × (total ≤ 4096) × (start ≤ total + 4096) × (8192 ≤ length (now t)) ⌝ }
+    ensures { λ r. ⌜ DepotRead (now (s .entry)) (depotOf n total (drop at (now (s .entry)))) start (now (t .entry)) (now (t .exit)) r ⌝ }
+{
+    let w = posts_at(s, at);
+    match w {
+        Posts::Not(x) => DepotRow::Refused(x, 3),
+        Posts::To(posts, p) => {
+            let l = list_at(s, p, 4, n, total, t, start);
+            match l {
+                Listed::Refused(x, f) => DepotRow::Refused(x, f),
+                Listed::To(cell, count, next) => DepotRow::To(posts, cell, count, next),
+            }
+        }
+    }
+}
+
+// The line of depot j: its side has `total` entries above, and its own go to the cells of t from `start` on.
+fn depot_at(
+    s: &[u8],
+    at: usize,
+    n: u16,
+    j: u16,
+    total: usize,
+    t: &mut [u16],
+    start: usize,
+) -> DepotRow
+    requires { ⌜ (at ≤ length (now s)) × (n ≤ 256) × (total ≤ 4096) × (start ≤ total + 4096) × (8192 ≤ length (now t)) ⌝ }
+    ensures { λ r. ⌜ DepotRead (now (s .entry)) (depotFields n j total (drop at (now (s .entry)))) start (now (t .entry)) (now (t .exit)) r ⌝ }
+{
+    let w = fields::numbered_at(s, at, b"D", j);
+    match w {
+        Numbered::Wrong(f) => DepotRow::Refused(3, f),
+        Numbered::To(p) => depot_of(s, p, n, total, t, start),
+    }
+}
+
+// The lines of the trainees: their heads go to the cells of h behind the first three, and their entries to the front of t.
+fn trainee_lines(s: &[u8], at: usize, n: usize, m: u16, h: &mut [u16], t: &mut [u16]) -> Side
+    requires { ⌜ (at ≤ length (now s)) × (n ≤ 256) × (m ≤ 64) × (3 + 2 * n ≤ length (now h)) × (8192 ≤ length (now t)) ⌝ }
+    ensures { λ r. ⌜ TraineesRead (now (s .entry)) (lines (traineeLine m) size n 1 0 [] (drop at (now (s .entry)))) (now (h .entry)) (now (h .exit)) (now (t .entry)) (now (t .exit)) r ⌝ }
+{
+    let mut c: usize = 0;
+    let mut p = at;
+    let mut total: usize = 0;
+    while c < n {
+        let l = trainee_at(s, p, m, (c + 1) as u16, total, t, total);
+        match l {
+            Listed::Refused(x, f) => {
+                return Side::Refused(x, c + 2, f);
+            }
+            Listed::To(cell, count, next) => {
+                h[3 + 2 * c] = total as u16;
+                h[4 + 2 * c] = cell;
+                total += count;
+                p = next;
+                c += 1;
+            }
+        }
+    }
+    Side::To(total, p)
 }
