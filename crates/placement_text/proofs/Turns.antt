@@ -9,15 +9,15 @@ use native.Mathlib.Nat.{sub-zero, add-zero, mul-suc}
 use lib.ListN.{length, drop, set, length-append}
 use lib.Seq.{sets, length-sets}
 use Rattle.meaning.specs.Lists.{weigh}
-use Rattle.meaning.specs.Placement.{depot, size, depotSize}
+use Rattle.meaning.specs.Placement.{Depot, depot, size, depotSize}
 use Rattle.fields.specs.Reader.{got, refusal, Reader, numbered, lines}
 use Rattle.fields.specs.Leaves.{On}
 use Rattle.fields.proofs.Puts.{sets-append}
 use Rattle.placement_text.specs.Words.{word-T, word-D}
-use Rattle.placement_text.specs.Reader.{received, list, MOST, traineeFields, traineeLine, depotOf, depotFields}
+use Rattle.placement_text.specs.Reader.{received, list, MOST, traineeFields, traineeLine, depotOf, depotFields, depotLine}
 use Rattle.placement_text.specs.Cells.{postsCell, lengthCell, listCells, depotListCells, traineeCells, depotCells, seriesCells, joined}
 use Rattle.placement_text.specs.Code.{Row, Rows, PostsTo}
-use Rattle.placement_text.proofs.Sides.{trainee-fields}
+use Rattle.placement_text.proofs.Sides.{trainee-fields, depot-fields}
 
 -- ---- one line
 
@@ -245,3 +245,45 @@ module _ (m : ℕ) {s : List ℕ} {at n : ℕ} {h₀ t₀ h t : List ℕ} {c p t
         (trainee-fields m (c + 1) total (drop p s) (R .goes) .fits (T .small))
         (two-cells h (3 + 2 * c) (4 + 2 * c) total cell (omega arith) ∙ ap (sets h (3 + 2 * c)) (R .head ∙ ap (λ k. traineeCells k (R .it)) z))
         (R .stored ∙ ap (λ k. sets t k (listCells (R .it))) z))
+
+-- ---- depots
+
+three-cells : (h : List ℕ) (i x y z : ℕ) → set (set (set h i x) (i + 1) y) (i + 2) z ≡ sets h i (x ∷ y ∷ z ∷ [])
+three-cells h i x y z =
+    let e : i + 1 ≡ suc i = omega arith in
+    let f : i + 2 ≡ suc (suc i) = omega arith in
+    ap₂ (λ j k. set (set (set h i x) j y) k z) e f
+
+depot-wide : (s : ℕ) (d : Depot) → length (depotCells s d) ≡ 3
+unfolding depotCells
+depot-wide s (depot p l) = refl
+
+depot-owned : (d : Depot) → length (depotListCells d) ≡ depotSize d
+unfolding depotListCells depotSize
+depot-owned (depot p l) = list-owned l
+
+-- the heads stand behind those of n trainees, and the entries from `base` on
+abbrev pub DepotTurn : ℕ → ℕ → List ℕ → ℕ → ℕ → List ℕ → List ℕ → List ℕ → List ℕ → ℕ → ℕ → ℕ → Type 0
+DepotTurn n base = Turn (depotLine n) depotSize depotCells depotListCells 3 (3 + 2 * n) base
+
+module _ (n base : ℕ) {s : List ℕ} {at m : ℕ} {h₀ t₀ h t : List ℕ} {c p total : ℕ} (T : DepotTurn n base s at m h₀ t₀ h t c p total) (b : c < m) where
+  pub depot-turn-refused : {x f : ℕ} → depotFields n (c + 1) total (drop p s) ≡ refusal x 0 f → lines (depotLine n) depotSize m 1 0 [] (drop at s) ≡ refusal x (n + c + 2) f
+  unfolding depotLine
+  depot-turn-refused {x} {f} e =
+      let l : n + (c + 1) + 1 ≡ n + c + 2 = omega arith in
+      turn-refused (depotLine n) depotSize depotCells depotListCells 3 (3 + 2 * n) base T b (rw e (ap (λ z. refusal x z f) l))
+
+  module _ {t′ : List ℕ} {posts cell count next : ℕ}
+      (R : Row depotSize depotCells depotListCells s (depotFields n (c + 1) total (drop p s)) (base + total) t t′ ((base + total) ∷ cell ∷ posts ∷ []) count next) where
+    pub depot-room : total + count ≤ MOST
+    depot-room = rw (R .size) (depot-fields n (c + 1) total (drop p s) (R .goes) .fits (T .small))
+
+    pub depot-turn-on : (q : ℕ) → q ≡ 3 + 2 * n + 3 * c
+        → DepotTurn n base s at m h₀ t₀ (set (set (set h q (base + total)) (q + 1) cell) (q + 2) posts) t′ (c + 1) next (total + count)
+    unfolding depotLine
+    depot-turn-on q e =
+        rw (R .size)
+        (turn-on (depotLine n) depotSize depotCells depotListCells 3 (3 + 2 * n) base T depot-wide depot-owned (R .it) _ t′ b (R .within) (rw (R .goes))
+        (depot-fields n (c + 1) total (drop p s) (R .goes) .fits (T .small))
+        (three-cells h q (base + total) cell posts ∙ ap₂ (sets h) e (R .head))
+        (R .stored))

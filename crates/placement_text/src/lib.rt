@@ -5,10 +5,10 @@ ghost use mathlib.Core.Option.{some};
 ghost use mathlib.Core.List.{[]};
 ghost use Prim.Native.Nat.{_+_, _*_, _≤_};
 ghost use lib.ListN.{length, drop};
-ghost use Rattle.meaning.specs.Placement.{size};
+ghost use Rattle.meaning.specs.Placement.{size, depotSize};
 ghost use Rattle.fields.specs.Reader.{lines};
 ghost use Rattle.placement_text.specs.Reader.{entries, listed, list, traineeFields, traineeLine, depotOf, depotFields, depotLine};
-ghost use Rattle.placement_text.specs.Code.{ReceivedRead, EntriesRead, ListedRead, PostsRead, DepotRead, TraineesRead};
+ghost use Rattle.placement_text.specs.Code.{ReceivedRead, EntriesRead, ListedRead, PostsRead, DepotRead, TraineesRead, DepotsRead};
 use fields::Field;
 use fields::Found;
 use fields::Num;
@@ -261,6 +261,43 @@ fn trainee_lines(s: &[u8], at: usize, n: usize, m: u16, h: &mut [u16], t: &mut [
             Listed::To(cell, count, next) => {
                 h[3 + 2 * c] = total as u16;
                 h[4 + 2 * c] = cell;
+                total += count;
+                p = next;
+                c += 1;
+            }
+        }
+    }
+    Side::To(total, p)
+}
+
+// The lines of the depots: their heads go to the cells of h behind those of the n trainees, and their entries to those of t from `base` on.
+fn depot_lines(
+    s: &[u8],
+    at: usize,
+    n: usize,
+    m: usize,
+    base: usize,
+    h: &mut [u16],
+    t: &mut [u16],
+) -> Side
+    requires { ⌜ (at ≤ length (now s)) × (n ≤ 256) × (m ≤ 64) × (base ≤ 4096) × (3 + 2 * n + 3 * m ≤ length (now h)) × (8192 ≤ length (now t)) ⌝ }
+    ensures { λ r. ⌜ DepotsRead (now (s .entry)) (lines (depotLine n) depotSize m 1 0 [] (drop at (now (s .entry)))) n base (now (h .entry)) (now (h .exit)) (now (t .entry)) (now (t .exit)) r ⌝ }
+{
+    let first = 3 + 2 * n;
+    let mut c: usize = 0;
+    let mut p = at;
+    let mut total: usize = 0;
+    while c < m {
+        let d = depot_at(s, p, n as u16, (c + 1) as u16, total, t, base + total);
+        match d {
+            DepotRow::Refused(x, f) => {
+                return Side::Refused(x, n + c + 2, f);
+            }
+            DepotRow::To(posts, cell, count, next) => {
+                let q = first + 3 * c;
+                h[q] = (base + total) as u16;
+                h[q + 1] = cell;
+                h[q + 2] = posts;
                 total += count;
                 p = next;
                 c += 1;
