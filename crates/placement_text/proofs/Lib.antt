@@ -8,3 +8,4 @@ pub mod Short
 pub mod Round
 pub mod Ways
 pub mod Turns
+pub mod Below

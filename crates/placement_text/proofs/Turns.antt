@@ -86,7 +86,7 @@ module _ {A : Type 0} (weight : A → ℕ) where
   weigh-end (x ∷ xs) a = omega (arith, weigh-end xs a)
 
   module _ (cells : ℕ → A → List ℕ) where
-    series-end : (s : ℕ) (xs : List A) (a : A) → seriesCells weight cells s (xs ++ a ∷ []) ≡ seriesCells weight cells s xs ++ cells (s + weigh weight xs) a
+    pub series-end : (s : ℕ) (xs : List A) (a : A) → seriesCells weight cells s (xs ++ a ∷ []) ≡ seriesCells weight cells s xs ++ cells (s + weigh weight xs) a
     unfolding seriesCells weigh
     series-end s [] a = rw (append-nil, add-zero)
     series-end s (x ∷ xs) a =
@@ -94,7 +94,7 @@ module _ {A : Type 0} (weight : A → ℕ) where
         ap (λ z. cells s x ++ z) (series-end (s + weight x) xs a ∙ ap (λ z. seriesCells weight cells (s + weight x) xs ++ cells z a) e)
         ∙ sym (append-assoc (cells s x) (seriesCells weight cells (s + weight x) xs) _)
 
-    series-length : (width : ℕ) → ((s : ℕ) (a : A) → length (cells s a) ≡ width) → (s : ℕ) (xs : List A) → length (seriesCells weight cells s xs) ≡ width * length xs
+    pub series-length : (width : ℕ) → ((s : ℕ) (a : A) → length (cells s a) ≡ width) → (s : ℕ) (xs : List A) → length (seriesCells weight cells s xs) ≡ width * length xs
     unfolding seriesCells
     series-length width wide s [] = omega arith
     series-length width wide s (x ∷ xs) =
@@ -248,7 +248,7 @@ module _ (m : ℕ) {s : List ℕ} {at n : ℕ} {h₀ t₀ h t : List ℕ} {c p t
 
 -- ---- depots
 
-three-cells : (h : List ℕ) (i x y z : ℕ) → set (set (set h i x) (i + 1) y) (i + 2) z ≡ sets h i (x ∷ y ∷ z ∷ [])
+pub three-cells : (h : List ℕ) (i x y z : ℕ) → set (set (set h i x) (i + 1) y) (i + 2) z ≡ sets h i (x ∷ y ∷ z ∷ [])
 three-cells h i x y z =
     let e : i + 1 ≡ suc i = omega arith in
     let f : i + 2 ≡ suc (suc i) = omega arith in

@@ -51,3 +51,6 @@ seriesCells weight cells s (x ∷ xs) = cells s x ++ seriesCells weight cells (s
 unfoldable pub joined : {A : Type 0} → (A → List ℕ) → List A → List ℕ
 joined f [] = []
 joined f (x ∷ xs) = f x ++ joined f xs
+
+unfoldable pub cellsOfOrders : List Order → List ℕ
+cellsOfOrders xs = length xs ∷ seriesCells weightless oneOrder 0 xs

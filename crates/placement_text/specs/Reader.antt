@@ -145,14 +145,19 @@ pub record Head : Type 0 where
 unfoldable pub edition : Reader ℕ
 edition = running 2 1 >> pure 1
 
-unfoldable pub headFields : Reader Head
-headFields = do
-  keyword word-placement
-  e ← edition
+-- n and m
+unfoldable pub sizes : ℕ → Reader Head
+sizes e = do
   n ← number 3 0 256
   m ← number 4 0 64
   lineEnd 5
   pure (record { edition = e; n = n; m = m })
+
+unfoldable pub headFields : Reader Head
+headFields = do
+  keyword word-placement
+  e ← edition
+  sizes e
 
 unfoldable pub body : Head → Reader Placement
 body h = do

@@ -7,8 +7,8 @@ ghost use Prim.Native.Nat.{_+_, _*_, _≤_};
 ghost use lib.ListN.{length, drop};
 ghost use Rattle.meaning.specs.Placement.{size, depotSize};
 ghost use Rattle.fields.specs.Reader.{lines};
-ghost use Rattle.placement_text.specs.Reader.{entries, listed, list, traineeFields, traineeLine, depotOf, depotFields, depotLine};
-ghost use Rattle.placement_text.specs.Code.{ReceivedRead, EntriesRead, ListedRead, PostsRead, DepotRead, TraineesRead, DepotsRead};
+ghost use Rattle.placement_text.specs.Reader.{entries, listed, list, traineeFields, traineeLine, depotOf, depotFields, depotLine, orders};
+ghost use Rattle.placement_text.specs.Code.{ReceivedRead, EntriesRead, ListedRead, PostsRead, DepotRead, TraineesRead, DepotsRead, OpeningRead, PairRead, FinishRead, OrderRead, PairsRead, SizesRead, HeadRead};
 use fields::Field;
 use fields::Found;
 use fields::Num;
@@ -50,6 +50,44 @@ pub enum DepotRow {
 pub enum Side {
     To(usize, usize),
     Refused(u16, usize, usize),
+}
+
+// What a line below the depots is, by its word: a pair with the cell of its kind, or the end line, and where the word stopped.
+pub enum Opens {
+    Pair(u16, usize),
+    End(usize),
+    Other,
+}
+
+// The trainee and the depot of a pair, and where its line stopped; or the refusal's number and field.
+pub enum PairRow {
+    To(u16, u16, usize),
+    Refused(u16, usize),
+}
+
+// The end of the text; or the refusal's number, line and field.
+pub enum Finish {
+    Done,
+    Refused(u16, usize, usize),
+}
+
+// A line below the depots: a pair's cells and where its line stopped, or the end of the text; or the refusal's number, line and field.
+pub enum OrderRow {
+    Pair(u16, u16, u16, usize),
+    Done,
+    Refused(u16, usize, usize),
+}
+
+// How many pairs there are; or the refusal's number, line and field.
+pub enum Orders {
+    To(usize),
+    Refused(u16, usize, usize),
+}
+
+// How many trainees and depots there are, and where the first line stopped; or the refusal's number and field.
+pub enum HeadRow {
+    To(u16, u16, usize),
+    Refused(u16, usize),
 }
 
 // A number of 0 to hi in the field at `at`, or `?`.
@@ -305,4 +343,161 @@ fn depot_lines(
         }
     }
     Side::To(total, p)
+}
+
+// The word of a line below the depots.
+fn opening_at(s: &[u8], at: usize) -> Opens
+    requires { ⌜ at ≤ length (now s) ⌝ }
+    ensures { λ r. ⌜ OpeningRead (now (s .entry)) at r ⌝ }
+{
+    let to = fields::word_end(s, at);
+    if fields::same_word(s, at, to, b"F") {
+        return Opens::Pair(0, to);
+    }
+    if fields::same_word(s, at, to, b"X") {
+        return Opens::Pair(1, to);
+    }
+    if fields::same_word(s, at, to, b"end") {
+        return Opens::End(to);
+    }
+    Opens::Other
+}
+
+// The fields of a held or barred pair, after its word.
+fn pair_at(s: &[u8], at: usize, n: u16, m: u16) -> PairRow
+    requires { ⌜ at ≤ length (now s) ⌝ }
+    ensures { λ r. ⌜ PairRead (now (s .entry)) at n m r ⌝ }
+{
+    let t = fields::number_at(s, at, 1, n);
+    match t {
+        Ranged::Not(x) => PairRow::Refused(x, 2),
+        Ranged::Is(i, p) => {
+            let d = fields::number_at(s, p, 1, m);
+            match d {
+                Ranged::Not(x) => PairRow::Refused(x, 3),
+                Ranged::Is(j, q) => {
+                    let f = fields::line_end_at(s, q);
+                    match f {
+                        Found::Wrong => PairRow::Refused(3, 4),
+                        Found::To(next) => PairRow::To(i, j, next),
+                    }
+                }
+            }
+        }
+    }
+}
+
+// The end line, l, after its word, and the end of the text.
+fn finish_at(s: &[u8], at: usize, l: usize) -> Finish
+    requires { ⌜ (at ≤ length (now s)) × (l ≤ 65536) ⌝ }
+    ensures { λ r. ⌜ FinishRead (now (s .entry)) at l r ⌝ }
+{
+    let f = fields::line_end_at(s, at);
+    match f {
+        Found::Wrong => Finish::Refused(3, l, 2),
+        Found::To(p) => {
+            if p < s.len() {
+                return Finish::Refused(3, l + 1, 1);
+            }
+            Finish::Done
+        }
+    }
+}
+
+// The line l below the depots, after c pairs.
+fn order_at(s: &[u8], at: usize, n: u16, m: u16, l: usize, c: usize) -> OrderRow
+    requires { ⌜ (at ≤ length (now s)) × (l ≤ 65536) × (c ≤ 1024) ⌝ }
+    ensures { λ r. ⌜ OrderRead (now (s .entry)) at n m l c r ⌝ }
+{
+    let w = opening_at(s, at);
+    match w {
+        Opens::Other => OrderRow::Refused(3, l, 1),
+        Opens::End(p) => {
+            let f = finish_at(s, p, l);
+            match f {
+                Finish::Done => OrderRow::Done,
+                Finish::Refused(x, k, g) => OrderRow::Refused(x, k, g),
+            }
+        }
+        Opens::Pair(kind, p) => {
+            if c == 1024 {
+                return OrderRow::Refused(6, l, 1);
+            }
+            let f = pair_at(s, p, n, m);
+            match f {
+                PairRow::Refused(x, g) => OrderRow::Refused(x, l, g),
+                PairRow::To(i, j, next) => OrderRow::Pair(kind, i, j, next),
+            }
+        }
+    }
+}
+
+// The lines below the depots, the first of them l: their pairs go to the front of o, behind their number.
+fn order_lines(s: &[u8], at: usize, n: u16, m: u16, l: usize, o: &mut [u16]) -> Orders
+    requires { ⌜ (at ≤ length (now s)) × (l ≤ 1024) × (3073 ≤ length (now o)) ⌝ }
+    ensures { λ r. ⌜ PairsRead (orders 1024 n m l [] (drop at (now (s .entry)))) (now (o .entry)) (now (o .exit)) r ⌝ }
+{
+    let mut c: usize = 0;
+    let mut p = at;
+    loop {
+        let x = order_at(s, p, n, m, l + c, c);
+        match x {
+            OrderRow::Refused(e, k, f) => {
+                return Orders::Refused(e, k, f);
+            }
+            OrderRow::Done => {
+                o[0] = c as u16;
+                return Orders::To(c);
+            }
+            OrderRow::Pair(kind, i, j, next) => {
+                let q = 1 + 3 * c;
+                o[q] = kind;
+                o[q + 1] = i;
+                o[q + 2] = j;
+                p = next;
+                c += 1;
+            }
+        }
+    }
+}
+
+// The numbers of trainees and depots, the first in the field 3 at `at`, and the end of the line.
+fn sizes_at(s: &[u8], at: usize) -> HeadRow
+    requires { ⌜ at ≤ length (now s) ⌝ }
+    ensures { λ r. ⌜ SizesRead (now (s .entry)) at r ⌝ }
+{
+    let t = fields::number_at(s, at, 0, 256);
+    match t {
+        Ranged::Not(x) => HeadRow::Refused(x, 3),
+        Ranged::Is(n, p) => {
+            let d = fields::number_at(s, p, 0, 64);
+            match d {
+                Ranged::Not(x) => HeadRow::Refused(x, 4),
+                Ranged::Is(m, q) => {
+                    let f = fields::line_end_at(s, q);
+                    match f {
+                        Found::Wrong => HeadRow::Refused(3, 5),
+                        Found::To(next) => HeadRow::To(n, m, next),
+                    }
+                }
+            }
+        }
+    }
+}
+
+// The first line of the text.
+fn head_at(s: &[u8]) -> HeadRow
+    ensures { λ r. ⌜ HeadRead (now (s .entry)) r ⌝ }
+{
+    let w = fields::keyword_at(s, 0, b"placement");
+    match w {
+        Found::Wrong => HeadRow::Refused(3, 1),
+        Found::To(p) => {
+            let e = fields::running_at(s, p, 1);
+            match e {
+                Found::Wrong => HeadRow::Refused(3, 2),
+                Found::To(q) => sizes_at(s, q),
+            }
+        }
+    }
 }
