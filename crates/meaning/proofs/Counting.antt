@@ -14,7 +14,7 @@ use Rattle.meaning.specs.Market.{Market, Standing, Ranged, Lawful, Table
 use Rattle.meaning.specs.Strikes.{Struck, Left}
 use Rattle.meaning.specs.Endings.{NoneRoom}
 use Rattle.meaning.proofs.Booleans.{true-or-false, never, and-left, and-right, and-intro}
-use Rattle.meaning.proofs.Numbers.{order, same, sum-cong, sum-less, sum-swap, sum-out, sum-in, count-mono, count-less, Find, found, nowhere, find}
+use Rattle.meaning.proofs.Numbers.{order, same, sum-cong, sum-less, sum-swap, sum-out, sum-in, count-mono, count-less, Find, found, none-found, find}
 use Rattle.meaning.proofs.Lists.{at}
 use Rattle.meaning.proofs.Pairs.{down-use, above-intro}
 use Rattle.meaning.proofs.Sound.{Clear, gains-above, left-sits, left-best}
@@ -56,7 +56,7 @@ module _ (K : Market) (O : Standing) (lawful : Lawful K O) (S : Struck) (M : Tab
   no-fewer within j rj = go (find (K .n) (λ k. eqb (L k) j & not (eqb (M k) j)))
     where
       go : Find (K .n) (λ k. eqb (L k) j & not (eqb (M k) j)) → placed K L j ≤ placed K M j
-      go (nowhere w) = count-mono (K .n) (λ k. eqb (L k) j) (λ k. eqb (M k) j)
+      go (none-found w) = count-mono (K .n) (λ k. eqb (L k) j) (λ k. eqb (M k) j)
           (λ k r t. ⊎-elim (λ q. q) (λ u. absurd (never (and-intro t (ap not u)) (w k r))) (true-or-false (eqb (M k) j)))
       go (found k r t) =
           let e = eqb-true (L k) j (and-left _ _ t) in

@@ -18,7 +18,7 @@ use Rattle.meaning.specs.Strikes.{Struck, nothing, aboveStruck, ahead, f
 use Rattle.meaning.specs.Endings.{placed-by, leftOf, NoneRoom}
 use Rattle.meaning.specs.Solver.{strikesOf, WholeRuling, solve}
 use Rattle.meaning.proofs.Booleans.{true-or-false, never, and-left, and-right, and-intro}
-use Rattle.meaning.proofs.Numbers.{same, count-mono, Find, found, nowhere, find}
+use Rattle.meaning.proofs.Numbers.{same, count-mono, Find, found, none-found, find}
 use Rattle.meaning.proofs.Pairs.{ahead-pair, ahead-less, ahead-intro, above-use, down-use}
 use Rattle.meaning.proofs.Complete.{Fitting, respecting, room, fitting}
 use Rattle.meaning.proofs.Full.{LegalFull, lawful-market, listed}
@@ -90,7 +90,7 @@ module _ (K : Market) (O : Standing) (lawful : Lawful K O) (unheld : (i j : ℕ)
         where
           seek : Find (K .n) (λ k. (ahead K i j k & aboveStruck K S k j) & S k j) → K .posts j ≤ count (K .n) (at-ahead i j)
           seek (found k r t) = w k (and-left _ _ (and-left _ _ t)) (and-right (ahead K i j k & aboveStruck K S k j) _ t)
-          seek (nowhere n) = le-trans (leb-true _ _ f) (count-mono (K .n) (λ k. ahead K i j k & aboveStruck K S k j) (at-ahead i j) (λ k r t.
+          seek (none-found n) = le-trans (leb-true _ _ f) (count-mono (K .n) (λ k. ahead K i j k & aboveStruck K S k j) (at-ahead i j) (λ k r t.
               let a = and-left _ _ t in
               and-intro (eq-eqb _ _ (sits-at k j (ahead-pair K i j k a) (and-right (ahead K i j k) _ t)
               (⊎-elim (λ u. absurd (never (and-intro t u) (n k r))) (λ v. v) (true-or-false (S k j))))) a))

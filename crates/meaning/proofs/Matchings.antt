@@ -14,7 +14,7 @@ use Rattle.meaning.specs.Placement.{Kind, held, barred, Order}
 use Rattle.meaning.specs.Market.{Market, sameKind, names, standing, Ranged, Table, mutual?, placed, Gains, free, better, Takes, spare, worse, Blocks, Stable, Respecting}
 use Rattle.meaning.specs.Endings.{blocks?, within?, stable?, obeys?, obeysAll?, respecting?}
 use Rattle.meaning.proofs.Booleans.{true-or-false, never, is-false, and-left, and-right, and-intro, or-cases, or-left, or-right, imp-use, imp-intro}
-use Rattle.meaning.proofs.Numbers.{last, Find, found, nowhere, find, all-use, all-intro}
+use Rattle.meaning.proofs.Numbers.{last, Find, found, none-found, find, all-use, all-intro}
 use Rattle.meaning.proofs.Lists.{some-here, some-later, some-cases}
 use Rattle.meaning.proofs.Pairs.{mutual-is, is-mutual}
 
@@ -31,7 +31,7 @@ module _ (K : Market) (M : Table) where
       one : not (all (K .n) (λ k. not (eqb (M k) j & ltb (K .depot-rank j i) (K .depot-rank j k)))) ≡ true
           → Find (K .n) (λ k. eqb (M k) j & ltb (K .depot-rank j i) (K .depot-rank j k)) → Takes K M i j
       one t (found k r u) = worse k r (eqb-true _ _ (and-left _ _ u)) (ltb-true _ _ (and-right (eqb (M k) j) _ u))
-      one t (nowhere g) = absurd (never (all-intro (K .n) _ (λ k r. ap not (g k r))) (not-true _ t))
+      one t (none-found g) = absurd (never (all-intro (K .n) _ (λ k r. ap not (g k r))) (not-true _ t))
 
   pub is-blocks : (i j : ℕ) → Blocks K M i j → blocks? K M i j ≡ true
   unfolding blocks?

@@ -154,16 +154,16 @@ count-none n f h = sum-cong n _ (λ _. 0) (λ k i. ap bit (h k i)) ∙ sum-zero 
 
 pub data Find (n : ℕ) (f : ℕ → Bool) : Type 0 where
   found : (k : ℕ) → In n k → f k ≡ true → Find n f
-  nowhere : ((k : ℕ) → In n k → f k ≡ false) → Find n f
+  none-found : ((k : ℕ) → In n k → f k ≡ false) → Find n f
 
 pub find : (n : ℕ) (f : ℕ → Bool) → Find n f
-find zero f = nowhere (λ k i. absurd (none-in i))
+find zero f = none-found (λ k i. absurd (none-in i))
 find (suc n) f = go (true-or-false (f (suc n))) (find n f)
   where
     go : (f (suc n) ≡ true) ⊎ (f (suc n) ≡ false) → Find n f → Find (suc n) f
     go (inl t) w = found (suc n) (last n) t
     go (inr e) (found k i t) = found k (wider n k i) t
-    go (inr e) (nowhere h) = nowhere (λ k i. ⊎-elim (λ q. subst (λ x. f x ≡ false) (sym q) e) (λ r. h k r) (inner n k i))
+    go (inr e) (none-found h) = none-found (λ k i. ⊎-elim (λ q. subst (λ x. f x ≡ false) (sym q) e) (λ r. h k r) (inner n k i))
 
 pub data FindPair (n m : ℕ) (f : ℕ → ℕ → Bool) : Type 0 where
   found-pair : (i j : ℕ) → In n i → In m j → f i j ≡ true → FindPair n m f
@@ -175,8 +175,8 @@ find-pair (suc n) m f = go (find m (f (suc n))) (find-pair n m f)
   where
     go : Find m (f (suc n)) → FindPair n m f → FindPair (suc n) m f
     go (found j r t) w = found-pair (suc n) j (last n) r t
-    go (nowhere h) (found-pair i j r r′ t) = found-pair i j (wider n i r) r′ t
-    go (nowhere h) (no-pair g) =
+    go (none-found h) (found-pair i j r r′ t) = found-pair i j (wider n i r) r′ t
+    go (none-found h) (no-pair g) =
         no-pair (λ i j r r′. ⊎-elim (λ q. subst (λ x. f x j ≡ false) (sym q) (h j r′)) (λ r″. g i j r″ r′) (inner n i r))
 
 -- the one with the greatest g among those of 1 to n that pass f

@@ -17,7 +17,7 @@ use Rattle.meaning.specs.Market.{Market, Standing, Lawful, Table, Mutual
 use Rattle.meaning.specs.Strikes.{Struck, aboveStruck, downStruck, ahead, fits, allowed, Left}
 use Rattle.meaning.specs.Endings.{NoneHeld}
 use Rattle.meaning.proofs.Booleans.{true-or-false, never, and-left, and-right, and-intro}
-use Rattle.meaning.proofs.Numbers.{order, same, count-less, Find, found, nowhere, find}
+use Rattle.meaning.proofs.Numbers.{order, same, count-less, Find, found, none-found, find}
 use Rattle.meaning.proofs.Pairs.{mutual-is, is-mutual, ahead-pair, ahead-less, above-use, down-use, above-intro}
 use Rattle.meaning.specs.declared.Reason.{Reason}
 use Rattle.meaning.specs.declared.Reason.the-variants.{Barred, HeldElsewhere, PostsGone, Passed}
@@ -70,7 +70,7 @@ module _ (K : Market) (O : Standing) (lawful : Lawful K O) (S : Struck) (M : Tab
             gains = gains-above k j (ahead-pair K i j k a) b off;
             takes = worse i ri e (ahead-less K i j k a);
           })
-      go (nowhere w) =
+      go (none-found w) =
           let less = count-less (K .n) (λ k. ahead K i j k & aboveStruck K S k j) (λ k. eqb (M k) j)
           (λ k r t. ⊎-elim (λ q. q) (λ u. absurd (never (and-intro t (ap not u)) (w k r))) (true-or-false (eqb (M k) j)))
           i ri not-self (eq-eqb (M i) j e)

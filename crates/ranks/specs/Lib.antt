@@ -1,0 +1,2 @@
+-- What full tables mean.
+pub mod View

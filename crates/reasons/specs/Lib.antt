@@ -1,0 +1,5 @@
+-- What rows and tables say of the reasons.
+pub mod Rows
+pub mod Scans
+pub mod Reasons
+pub mod Answers

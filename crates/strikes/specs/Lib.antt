@@ -1,0 +1,2 @@
+-- How strikes stand in plain cells.
+pub mod Cells
