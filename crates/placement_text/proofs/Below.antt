@@ -13,13 +13,15 @@ use Rattle.fields.specs.Bytes.{wordOf, same, word-end}
 use Rattle.fields.specs.Reader.{got, refusal, keyword, lineEnd, number, running, atEnd}
 use Rattle.fields.proofs.Positions.{byte-drop, word-slice, word-within, rest-drop}
 use Rattle.fields.proofs.Puts.{sets-append}
+use Rattle.tables.proofs.Series.{series-cells}
+use Rattle.tables.proofs.One.{order-wide}
 use Rattle.placement_text.specs.Words.{word-placement, word-F, word-X}
 use Rattle.placement_text.specs.Reader.{Opening, order, ending, other, openingOf, orderFields, endFields, finish, orders, edition, sizes, headFields}
-use Rattle.placement_text.specs.Cells.{kindCell, oneOrder, weightless, seriesCells, cellsOfOrders}
+use Rattle.tables.specs.Cells.{kindCell, oneOrder, weightless, seriesCells, cellsOfOrders}
 use Rattle.placement_text.specs.Code.{Opened, PairOpened, pairOf, OneMore, AllPairs, headOf, SizesRead, HeadRead}
 use Rattle.placement_text.specs.declared.HeadRow.{HeadRow}
 use Rattle.placement_text.specs.declared.HeadRow.the-variants.{To as ToHead, Refused as HeadRefused}
-use Rattle.placement_text.proofs.Turns.{series-end, series-length, three-cells}
+use Rattle.placement_text.proofs.Turns.{series-end, three-cells}
 
 -- ---- the word
 
@@ -126,10 +128,6 @@ set-before [] t i j v h = refl
 set-before (x ∷ xs) t i j v h =
     set-before xs (set t i x) (suc i) j v (omega arith) ∙ ap (λ z. sets z (suc i) xs) (set-comm t i j x v (λ e. omega arith))
 
-order-wide : (s : ℕ) (o : Order) → length (oneOrder s o) ≡ 3
-unfolding oneOrder
-order-wide s o = refl
-
 -- after c pairs
 pub record PairsTurn (s : List ℕ) (at n m l : ℕ) (o₀ o : List ℕ) (c p : ℕ) : Type 0 where
   pub them : List Order
@@ -178,7 +176,7 @@ module _ {s : List ℕ} {at n m l : ℕ} {o₀ o : List ℕ} {c p : ℕ} (T : Pa
       }
     where
       start : 1 + length (seriesCells weightless oneOrder 0 (T .them)) ≡ q
-      start = ap (λ z. 1 + z) (series-length weightless oneOrder 3 order-wide 0 (T .them) ∙ ap (λ z. 3 * z) (T .many)) ∙ sym e
+      start = ap (λ z. 1 + z) (series-cells weightless 3 oneOrder order-wide 0 (T .them) ∙ ap (λ z. 3 * z) (T .many)) ∙ sym e
 
       cs : set (set (set o q kind) (q + 1) i) (q + 2) j ≡ sets o₀ 1 (seriesCells weightless oneOrder 0 (T .them ++ M .it ∷ []))
       cs =

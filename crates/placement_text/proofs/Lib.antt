@@ -1,4 +1,4 @@
--- The placement text there and back.
+-- The placement text there and back, and the laws that its reader is proved by.
 pub mod Marks
 pub mod Repeats
 pub mod Lists
@@ -9,3 +9,4 @@ pub mod Round
 pub mod Ways
 pub mod Turns
 pub mod Below
+pub mod Whole

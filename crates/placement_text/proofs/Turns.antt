@@ -3,19 +3,21 @@
 use Prim.Native.Nat.{ℕ, suc, _+_, _-_, _*_, _≤_, _<_}
 use mathlib.Core.Path.{_≡_, refl, sym, ap, ap₂, _∙_}
 use mathlib.Core.Option.{Option, none, some}
-use mathlib.Core.List.{List, [], _∷_, _++_, append-assoc, append-nil}
+use mathlib.Core.List.{List, [], _∷_, _++_, append-nil}
 use native.Mathlib.Omega.{arith}
-use native.Mathlib.Nat.{sub-zero, add-zero, mul-suc}
+use native.Mathlib.Nat.{sub-zero}
 use lib.ListN.{length, drop, set, length-append}
 use lib.Seq.{sets, length-sets}
 use Rattle.meaning.specs.Lists.{weigh}
-use Rattle.meaning.specs.Placement.{Depot, depot, size, depotSize}
+use Rattle.meaning.specs.Placement.{depot, size, depotSize}
 use Rattle.fields.specs.Reader.{got, refusal, Reader, numbered, lines}
 use Rattle.fields.specs.Leaves.{On}
 use Rattle.fields.proofs.Puts.{sets-append}
+use Rattle.tables.proofs.Series.{series-cells, joined-weigh, series-more, joined-more, weigh-more}
+use Rattle.tables.proofs.One.{trainee-wide, entries-weigh, depot-wide, depot-weigh}
 use Rattle.placement_text.specs.Words.{word-T, word-D}
 use Rattle.placement_text.specs.Reader.{received, list, MOST, traineeFields, traineeLine, depotOf, depotFields, depotLine}
-use Rattle.placement_text.specs.Cells.{postsCell, lengthCell, listCells, depotListCells, traineeCells, depotCells, seriesCells, joined}
+use Rattle.tables.specs.Cells.{postsCell, lengthCell, listCells, depotListCells, traineeCells, depotCells, seriesCells, joined}
 use Rattle.placement_text.specs.Code.{Row, Rows, PostsTo}
 use Rattle.placement_text.proofs.Sides.{trainee-fields, depot-fields}
 
@@ -82,35 +84,16 @@ depot-row {s} n total at start {cell = cell} P L =
 module _ {A : Type 0} (weight : A → ℕ) where
   weigh-end : (xs : List A) (a : A) → weigh weight (xs ++ a ∷ []) ≡ weigh weight xs + weight a
   unfolding weigh
-  weigh-end [] a = omega arith
-  weigh-end (x ∷ xs) a = omega (arith, weigh-end xs a)
+  weigh-end xs a = weigh-more weight xs (a ∷ []) ∙ omega arith
 
-  module _ (cells : ℕ → A → List ℕ) where
-    pub series-end : (s : ℕ) (xs : List A) (a : A) → seriesCells weight cells s (xs ++ a ∷ []) ≡ seriesCells weight cells s xs ++ cells (s + weigh weight xs) a
-    unfolding seriesCells weigh
-    series-end s [] a = rw (append-nil, add-zero)
-    series-end s (x ∷ xs) a =
-        let e : s + weight x + weigh weight xs ≡ s + (weight x + weigh weight xs) = omega arith in
-        ap (λ z. cells s x ++ z) (series-end (s + weight x) xs a ∙ ap (λ z. seriesCells weight cells (s + weight x) xs ++ cells z a) e)
-        ∙ sym (append-assoc (cells s x) (seriesCells weight cells (s + weight x) xs) _)
+  pub series-end : (cells : ℕ → A → List ℕ) (s : ℕ) (xs : List A) (a : A)
+      → seriesCells weight cells s (xs ++ a ∷ []) ≡ seriesCells weight cells s xs ++ cells (s + weigh weight xs) a
+  unfolding seriesCells
+  series-end cells s xs a = series-more weight cells s xs (a ∷ []) ∙ ap (λ z. seriesCells weight cells s xs ++ z) (append-nil _)
 
-    pub series-length : (width : ℕ) → ((s : ℕ) (a : A) → length (cells s a) ≡ width) → (s : ℕ) (xs : List A) → length (seriesCells weight cells s xs) ≡ width * length xs
-    unfolding seriesCells
-    series-length width wide s [] = omega arith
-    series-length width wide s (x ∷ xs) =
-        length-append (cells s x) (seriesCells weight cells (s + weight x) xs)
-        ∙ omega (arith, wide s x, series-length width wide (s + weight x) xs, mul-suc width (length xs))
-
-  module _ (own : A → List ℕ) where
-    joined-end : (xs : List A) (a : A) → joined own (xs ++ a ∷ []) ≡ joined own xs ++ own a
-    unfolding joined
-    joined-end [] a = append-nil (own a)
-    joined-end (x ∷ xs) a = ap (λ z. own x ++ z) (joined-end xs a) ∙ sym (append-assoc (own x) (joined own xs) (own a))
-
-    joined-length : ((a : A) → length (own a) ≡ weight a) → (xs : List A) → length (joined own xs) ≡ weigh weight xs
-    unfolding joined weigh
-    joined-length owned [] = refl
-    joined-length owned (x ∷ xs) = length-append (own x) (joined own xs) ∙ omega (arith, owned x, joined-length owned xs)
+joined-end : {A : Type 0} (own : A → List ℕ) (xs : List A) (a : A) → joined own (xs ++ a ∷ []) ≡ joined own xs ++ own a
+unfolding joined
+joined-end own xs a = joined-more own xs (a ∷ []) ∙ ap (λ z. joined own xs ++ z) (append-nil (own a))
 
 -- ---- the loop over a side's lines
 
@@ -177,10 +160,10 @@ module _ {A : Type 0} (one : ℕ → ℕ → Reader A) (weight : A → ℕ) (cel
         }
       where
         at-h : first + length (seriesCells weight cells base (T .them)) ≡ first + width * c
-        at-h = ap (λ z. first + z) (series-length weight cells width wide base (T .them) ∙ ap (λ z. width * z) (T .many))
+        at-h = ap (λ z. first + z) (series-cells weight width cells wide base (T .them) ∙ ap (λ z. width * z) (T .many))
 
         at-t : base + length (joined own (T .them)) ≡ base + total
-        at-t = ap (λ z. base + z) (joined-length weight own owned (T .them) ∙ sym (T .size))
+        at-t = ap (λ z. base + z) (joined-weigh weight own owned (T .them) ∙ sym (T .size))
 
         hs : h′ ≡ sets h₀ first (seriesCells weight cells base (T .them ++ a ∷ []))
         hs =
@@ -195,7 +178,7 @@ module _ {A : Type 0} (one : ℕ → ℕ → Reader A) (weight : A → ℕ) (cel
             y
             ∙ ap₂ (λ z k. sets z k (own a)) (T .stored) (sym at-t)
             ∙ sym (sets-append t₀ base (joined own (T .them)) (own a))
-            ∙ ap (sets t₀ base) (sym (joined-end weight own (T .them) a))
+            ∙ ap (sets t₀ base) (sym (joined-end own (T .them) a))
 
     pub turn-done : n ≤ c → Rows weight cells own s (lines one weight n 1 0 [] (drop at s)) first base h₀ h t₀ t total p
     unfolding lines
@@ -207,15 +190,6 @@ module _ {A : Type 0} (one : ℕ → ℕ → Reader A) (weight : A → ℕ) (cel
 
 two-cells : (h : List ℕ) (i j x y : ℕ) → j ≡ suc i → set (set h i x) j y ≡ sets h i (x ∷ y ∷ [])
 two-cells h i j x y e = ap (λ z. set (set h i x) z y) e
-
-trainee-wide : (s : ℕ) (l : Option (List ℕ)) → length (traineeCells s l) ≡ 2
-unfolding traineeCells
-trainee-wide s l = refl
-
-list-owned : (l : Option (List ℕ)) → length (listCells l) ≡ size l
-unfolding listCells size
-list-owned none = refl
-list-owned (some l) = refl
 
 -- the heads stand behind the first three cells, and the entries at the front
 abbrev pub TraineeTurn : ℕ → List ℕ → ℕ → ℕ → List ℕ → List ℕ → List ℕ → List ℕ → ℕ → ℕ → ℕ → Type 0
@@ -241,7 +215,7 @@ module _ (m : ℕ) {s : List ℕ} {at n : ℕ} {h₀ t₀ h t : List ℕ} {c p t
     trainee-turn-on =
         let z : total ≡ 0 + total = omega arith in
         rw (R .size)
-        (turn-on (traineeLine m) size traineeCells listCells 2 3 0 T trainee-wide list-owned (R .it) _ t′ b (R .within) (rw (R .goes))
+        (turn-on (traineeLine m) size traineeCells listCells 2 3 0 T trainee-wide entries-weigh (R .it) _ t′ b (R .within) (rw (R .goes))
         (trainee-fields m (c + 1) total (drop p s) (R .goes) .fits (T .small))
         (two-cells h (3 + 2 * c) (4 + 2 * c) total cell (omega arith) ∙ ap (sets h (3 + 2 * c)) (R .head ∙ ap (λ k. traineeCells k (R .it)) z))
         (R .stored ∙ ap (λ k. sets t k (listCells (R .it))) z))
@@ -253,14 +227,6 @@ three-cells h i x y z =
     let e : i + 1 ≡ suc i = omega arith in
     let f : i + 2 ≡ suc (suc i) = omega arith in
     ap₂ (λ j k. set (set (set h i x) j y) k z) e f
-
-depot-wide : (s : ℕ) (d : Depot) → length (depotCells s d) ≡ 3
-unfolding depotCells
-depot-wide s (depot p l) = refl
-
-depot-owned : (d : Depot) → length (depotListCells d) ≡ depotSize d
-unfolding depotListCells depotSize
-depot-owned (depot p l) = list-owned l
 
 -- the heads stand behind those of n trainees, and the entries from `base` on
 abbrev pub DepotTurn : ℕ → ℕ → List ℕ → ℕ → ℕ → List ℕ → List ℕ → List ℕ → List ℕ → ℕ → ℕ → ℕ → Type 0
@@ -283,7 +249,7 @@ module _ (n base : ℕ) {s : List ℕ} {at m : ℕ} {h₀ t₀ h t : List ℕ} {
     unfolding depotLine
     depot-turn-on q e =
         rw (R .size)
-        (turn-on (depotLine n) depotSize depotCells depotListCells 3 (3 + 2 * n) base T depot-wide depot-owned (R .it) _ t′ b (R .within) (rw (R .goes))
+        (turn-on (depotLine n) depotSize depotCells depotListCells 3 (3 + 2 * n) base T depot-wide depot-weigh (R .it) _ t′ b (R .within) (rw (R .goes))
         (depot-fields n (c + 1) total (drop p s) (R .goes) .fits (T .small))
         (three-cells h q (base + total) cell posts ∙ ap₂ (sets h) e (R .head))
         (R .stored))

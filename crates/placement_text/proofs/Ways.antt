@@ -21,7 +21,7 @@ use Rattle.fields.proofs.Words.{number-back}
 use Rattle.fields.proofs.Puts.{sets-append}
 use Rattle.placement_text.specs.Words.{word-?}
 use Rattle.placement_text.specs.Reader.{orMissing, received, entry, entries, MOST, listed, list}
-use Rattle.placement_text.specs.Cells.{lengthCell, listCells, traineeCells}
+use Rattle.tables.specs.Cells.{lengthCell, listCells, traineeCells}
 use Rattle.placement_text.specs.Code.{Filled, Row}
 use Rattle.placement_text.proofs.Lists.{entries-back}
 

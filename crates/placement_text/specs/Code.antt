@@ -12,7 +12,7 @@ use Rattle.fields.specs.Reader.{Step, got, refusal}
 use Rattle.fields.specs.Leaves.{On, Refused}
 use Rattle.fields.specs.Bytes.{wordOf, restOf}
 use Rattle.placement_text.specs.Reader.{received, Opening, order, ending, other, openingOf, orderFields, finish, orders, Head, sizes, headFields}
-use Rattle.placement_text.specs.Cells.{postsCell, traineeCells, depotCells, kindCell, oneOrder, listCells, depotListCells, seriesCells, joined, cellsOfOrders}
+use Rattle.tables.specs.Cells.{postsCell, traineeCells, depotCells, kindCell, oneOrder, listCells, depotListCells, seriesCells, joined, cellsOfOrders}
 use Rattle.placement_text.specs.declared.Received.{Received}
 use Rattle.placement_text.specs.declared.Received.the-variants.{Is, Missing, Not}
 use Rattle.placement_text.specs.declared.Entries.{Entries}

@@ -5,7 +5,7 @@ use native.Mathlib.Omega.{arith}
 use lib.ListN.{drop, length-set}
 use Rattle.meaning.specs.Placement.{depotSize}
 use Rattle.placement_text.specs.Reader.{depotFields, depotLine}
-use Rattle.placement_text.specs.Cells.{depotCells, depotListCells}
+use Rattle.tables.specs.Cells.{depotCells, depotListCells}
 use Rattle.placement_text.specs.Code.{DepotRead}
 use Rattle.placement_text.proofs.Turns.{DepotTurn, turn-start, turn-heads, turn-entries, turn-done, depot-turn-refused, depot-room, depot-turn-on}
 use Rattle.placement_text.proofs.depot_lines.Statement.{statement}

@@ -5,7 +5,7 @@ use native.Mathlib.Omega.{arith}
 use lib.ListN.{drop, length-set}
 use Rattle.meaning.specs.Placement.{size}
 use Rattle.placement_text.specs.Reader.{traineeFields, traineeLine}
-use Rattle.placement_text.specs.Cells.{traineeCells, listCells}
+use Rattle.tables.specs.Cells.{traineeCells, listCells}
 use Rattle.placement_text.specs.Code.{ListedRead}
 use Rattle.placement_text.proofs.Turns.{TraineeTurn, turn-start, turn-heads, turn-entries, turn-done, trainee-turn-refused, trainee-room, trainee-turn-on}
 use Rattle.placement_text.proofs.trainee_lines.Statement.{statement}
