@@ -111,7 +111,7 @@ module _ {A : Type 0} (one : ℕ → ℕ → Reader A) (weight : A → ℕ) (cel
     pub stored : t ≡ sets t₀ base (joined own them)
     pub goes : lines one weight n 1 0 [] (drop at s) ≡ lines one weight (n - c) (c + 1) total them (drop p s)
 
-  pub turn-start : (s : List ℕ) (at n : ℕ) (h t : List ℕ) → at ≤ length s → Turn s at n h t h t 0 at 0
+  turn-start : (s : List ℕ) (at n : ℕ) (h t : List ℕ) → at ≤ length s → Turn s at n h t h t 0 at 0
   unfolding seriesCells joined weigh
   turn-start s at n h t w =
       record {
@@ -127,13 +127,13 @@ module _ {A : Type 0} (one : ℕ → ℕ → Reader A) (weight : A → ℕ) (cel
       }
 
   module _ {s : List ℕ} {at n : ℕ} {h₀ t₀ h t : List ℕ} {c p total : ℕ} (T : Turn s at n h₀ t₀ h t c p total) where
-    pub turn-heads : length h ≡ length h₀
+    turn-heads : length h ≡ length h₀
     turn-heads = ap length (T .heads) ∙ length-sets h₀ first (seriesCells weight cells base (T .them))
 
-    pub turn-entries : length t ≡ length t₀
+    turn-entries : length t ≡ length t₀
     turn-entries = ap length (T .stored) ∙ length-sets t₀ base (joined own (T .them))
 
-    pub turn-refused : {x l f : ℕ} → c < n → one (c + 1) total (drop p s) ≡ refusal x l f → lines one weight n 1 0 [] (drop at s) ≡ refusal x l f
+    turn-refused : {x l f : ℕ} → c < n → one (c + 1) total (drop p s) ≡ refusal x l f → lines one weight n 1 0 [] (drop at s) ≡ refusal x l f
     unfolding lines
     turn-refused b e = let k : n - c ≡ suc (n - (c + 1)) = omega arith in T .goes ∙ rw k (rw e)
 
@@ -142,7 +142,7 @@ module _ {A : Type 0} (one : ℕ → ℕ → Reader A) (weight : A → ℕ) (cel
     unfolding lines
     turn-goes b e = let k : n - c ≡ suc (n - (c + 1)) = omega arith in T .goes ∙ rw k (rw e)
 
-    pub turn-on : ((s : ℕ) (a : A) → length (cells s a) ≡ width) → ((a : A) → length (own a) ≡ weight a) → (a : A) (h′ t′ : List ℕ) {next : ℕ} → c < n
+    turn-on : ((s : ℕ) (a : A) → length (cells s a) ≡ width) → ((a : A) → length (own a) ≡ weight a) → (a : A) (h′ t′ : List ℕ) {next : ℕ} → c < n
         → next ≤ length s → one (c + 1) total (drop p s) ≡ got a (drop next s) → total + weight a ≤ MOST
         → h′ ≡ sets h (first + width * c) (cells (base + total) a) → t′ ≡ sets t (base + total) (own a)
         → Turn s at n h₀ t₀ h′ t′ (c + 1) next (total + weight a)
@@ -180,7 +180,7 @@ module _ {A : Type 0} (one : ℕ → ℕ → Reader A) (weight : A → ℕ) (cel
             ∙ sym (sets-append t₀ base (joined own (T .them)) (own a))
             ∙ ap (sets t₀ base) (sym (joined-end own (T .them) a))
 
-    pub turn-done : n ≤ c → Rows weight cells own s (lines one weight n 1 0 [] (drop at s)) first base h₀ h t₀ t total p
+    turn-done : n ≤ c → Rows weight cells own s (lines one weight n 1 0 [] (drop at s)) first base h₀ h t₀ t total p
     unfolding lines
     turn-done b =
         let k : n - c ≡ 0 = omega arith in
@@ -194,6 +194,19 @@ two-cells h i j x y e = ap (λ z. set (set h i x) z y) e
 -- the heads stand behind the first three cells, and the entries at the front
 abbrev pub TraineeTurn : ℕ → List ℕ → ℕ → ℕ → List ℕ → List ℕ → List ℕ → List ℕ → ℕ → ℕ → ℕ → Type 0
 TraineeTurn m = Turn (traineeLine m) size traineeCells listCells 2 3 0
+
+pub trainee-start : (m : ℕ) (s : List ℕ) (at n : ℕ) (h t : List ℕ) → at ≤ length s → TraineeTurn m s at n h t h t 0 at 0
+trainee-start m = turn-start (traineeLine m) size traineeCells listCells 2 3 0
+
+module _ (m : ℕ) {s : List ℕ} {at n : ℕ} {h₀ t₀ h t : List ℕ} {c p total : ℕ} (T : TraineeTurn m s at n h₀ t₀ h t c p total) where
+  pub trainee-heads : length h ≡ length h₀
+  trainee-heads = turn-heads (traineeLine m) size traineeCells listCells 2 3 0 T
+
+  pub trainee-entries : length t ≡ length t₀
+  trainee-entries = turn-entries (traineeLine m) size traineeCells listCells 2 3 0 T
+
+  pub trainee-done : n ≤ c → Rows size traineeCells listCells s (lines (traineeLine m) size n 1 0 [] (drop at s)) 3 0 h₀ h t₀ t total p
+  trainee-done = turn-done (traineeLine m) size traineeCells listCells 2 3 0 T
 
 abbrev pub TraineeRow : ℕ → List ℕ → ℕ → ℕ → ℕ → List ℕ → List ℕ → ℕ → ℕ → ℕ → Type 0
 TraineeRow m s c p total t t′ cell count next =
@@ -231,6 +244,19 @@ three-cells h i x y z =
 -- the heads stand behind those of n trainees, and the entries from `base` on
 abbrev pub DepotTurn : ℕ → ℕ → List ℕ → ℕ → ℕ → List ℕ → List ℕ → List ℕ → List ℕ → ℕ → ℕ → ℕ → Type 0
 DepotTurn n base = Turn (depotLine n) depotSize depotCells depotListCells 3 (3 + 2 * n) base
+
+pub depot-start : (n base : ℕ) (s : List ℕ) (at m : ℕ) (h t : List ℕ) → at ≤ length s → DepotTurn n base s at m h t h t 0 at 0
+depot-start n base = turn-start (depotLine n) depotSize depotCells depotListCells 3 (3 + 2 * n) base
+
+module _ (n base : ℕ) {s : List ℕ} {at m : ℕ} {h₀ t₀ h t : List ℕ} {c p total : ℕ} (T : DepotTurn n base s at m h₀ t₀ h t c p total) where
+  pub depot-heads : length h ≡ length h₀
+  depot-heads = turn-heads (depotLine n) depotSize depotCells depotListCells 3 (3 + 2 * n) base T
+
+  pub depot-entries : length t ≡ length t₀
+  depot-entries = turn-entries (depotLine n) depotSize depotCells depotListCells 3 (3 + 2 * n) base T
+
+  pub depot-done : m ≤ c → Rows depotSize depotCells depotListCells s (lines (depotLine n) depotSize m 1 0 [] (drop at s)) (3 + 2 * n) base h₀ h t₀ t total p
+  depot-done = turn-done (depotLine n) depotSize depotCells depotListCells 3 (3 + 2 * n) base T
 
 module _ (n base : ℕ) {s : List ℕ} {at m : ℕ} {h₀ t₀ h t : List ℕ} {c p total : ℕ} (T : DepotTurn n base s at m h₀ t₀ h t c p total) (b : c < m) where
   pub depot-turn-refused : {x f : ℕ} → depotFields n (c + 1) total (drop p s) ≡ refusal x 0 f → lines (depotLine n) depotSize m 1 0 [] (drop at s) ≡ refusal x (n + c + 2) f

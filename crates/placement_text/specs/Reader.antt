@@ -48,7 +48,7 @@ entries (suc c) k hi seen = do
 abbrev pub MOST : ℕ
 MOST = 4096
 
--- after the length
+-- what follows a length
 unfoldable pub listed : ℕ → ℕ → ℕ → Option ℕ → Reader (Option (List ℕ))
 listed k hi total none = lineEnd (k + 1) >> pure none
 listed k hi total (some c) = do
@@ -63,28 +63,28 @@ list k hi total = received k hi >>= listed k hi total
 
 -- ---- the lines of the trainees and of the depots
 
--- trainee i stands on the line i + 1
 unfoldable pub traineeFields : ℕ → ℕ → ℕ → Reader (Option (List ℕ))
 traineeFields m i total = do
   numbered word-T i
   list 3 m total
 
+-- trainee i stands on the line i + 1
 unfoldable pub traineeLine : ℕ → ℕ → ℕ → Reader (Option (List ℕ))
 traineeLine m i total = line (i + 1) (traineeFields m i total)
 
--- posts and list
+-- posts and list of a depot
 unfoldable pub depotOf : ℕ → ℕ → Reader Depot
 depotOf n total = do
   ps ← received 3 256
   l ← list 4 n total
   pure (depot ps l)
 
--- depot j stands on the line n + j + 1
 unfoldable pub depotFields : ℕ → ℕ → ℕ → Reader Depot
 depotFields n j total = do
   numbered word-D j
   depotOf n total
 
+-- depot j stands on the line n + j + 1
 unfoldable pub depotLine : ℕ → ℕ → ℕ → Reader Depot
 depotLine n j total = line (n + j + 1) (depotFields n j total)
 

@@ -36,14 +36,18 @@ returns c =
 returns-2 : tie.Need-returns-2
 returns-2 c =
     let a = c .before .before .before .before .before .before .before .before .before .args in
-    let w = subst (FieldRead (a .s .now) (a .at)) (c .before .before .before .before .before .w .given .1) (c .before .before .before .before .before .before .before .field-at .ensures) in
+    let w =
+    subst (FieldRead (a .s .now) (a .at)) (c .before .before .before .before .before .w .given .1)
+    (c .before .before .before .before .before .before .before .field-at .ensures) in
     let n = num-value _ _ (sym (c .before .before .before .number-in .ensures) ∙ c .before .n .given .1) in
     record { goes = λ k. figure-is k _ (w .goes k) n; within = w .within }
 
 returns-3 : tie.Need-returns-3
 returns-3 c =
     let a = c .before .before .before .before .before .before .before .before .args in
-    let w = subst (FieldRead (a .s .now) (a .at)) (c .before .before .before .before .w .given .1) (c .before .before .before .before .before .before .field-at .ensures) in
+    let w =
+    subst (FieldRead (a .s .now) (a .at)) (c .before .before .before .before .w .given .1)
+    (c .before .before .before .before .before .before .field-at .ensures) in
     let n = num-not _ (sym (c .before .before .number-in .ensures) ∙ c .enum-told2 .given .1) in
     λ k. figure-wrong k _ (w .goes k) n
 

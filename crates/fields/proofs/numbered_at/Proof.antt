@@ -35,15 +35,23 @@ returns c =
 returns-2 : tie.Need-returns-2
 returns-2 c =
     let a = c .before .before .before .before .before .before .before .before .before .args in
-    let k = subst (KeywordRead (a .s .now) (a .at) (a .w .now)) (c .before .before .before .before .k .given .1) (c .before .before .before .before .before .before .keyword-at .ensures) in
-    let f = subst (RunningRead (a .s .now) (c .before .before .before .before .k .given .0 .0) (a .i)) (c .enum-told2 .given .1) (c .before .before .running-at .ensures) in
+    let k =
+    subst (KeywordRead (a .s .now) (a .at) (a .w .now)) (c .before .before .before .before .k .given .1)
+    (c .before .before .before .before .before .before .keyword-at .ensures) in
+    let f =
+    subst (RunningRead (a .s .now) (c .before .before .before .before .k .given .0 .0) (a .i)) (c .enum-told2 .given .1)
+    (c .before .before .running-at .ensures) in
     numbered-running (a .w .now) (a .i) _ (k .goes 1) ∙ f 2
 
 returns-3 : tie.Need-returns-3
 returns-3 c =
     let a = c .before .before .before .before .before .before .before .before .before .before .args in
-    let k = subst (KeywordRead (a .s .now) (a .at) (a .w .now)) (c .before .before .before .before .before .k .given .1) (c .before .before .before .before .before .before .before .keyword-at .ensures) in
-    let f = subst (RunningRead (a .s .now) (c .before .before .before .before .before .k .given .0 .0) (a .i)) (c .before .f .given .1) (c .before .before .before .running-at .ensures) in
+    let k =
+    subst (KeywordRead (a .s .now) (a .at) (a .w .now)) (c .before .before .before .before .before .k .given .1)
+    (c .before .before .before .before .before .before .before .keyword-at .ensures) in
+    let f =
+    subst (RunningRead (a .s .now) (c .before .before .before .before .before .k .given .0 .0) (a .i)) (c .before .f .given .1)
+    (c .before .before .before .running-at .ensures) in
     record { goes = λ _. numbered-running (a .w .now) (a .i) _ (k .goes 1) ∙ f .goes 2; within = f .within }
 
 pub numbered-at-spec : {M : Type 1} → statement M

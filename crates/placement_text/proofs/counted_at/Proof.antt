@@ -34,7 +34,9 @@ enum-known-e-2 c = search needs
 line-end-at-requires : tie.Need-line-end-at-requires
 line-end-at-requires c κs =
     let a = c .before .before .before .before .before .before .before .before .before .before .args in
-    let e = subst (EntriesRead (a .s .now) (entries (a .count) (a .k + 1) (a .hi) [] (drop (a .at) (a .s .now))) (a .start) _ _) (c .before .e2 .given .1) (c .before .before .before .before .before .entries-at .ensures) in
+    let e =
+    subst (EntriesRead (a .s .now) (entries (a .count) (a .k + 1) (a .hi) [] (drop (a .at) (a .s .now))) (a .start) _ _) (c .before .e2 .given .1)
+    (c .before .before .before .before .before .entries-at .ensures) in
     e .within
 
 enum-known-f : tie.Need-enum-known-f
@@ -55,7 +57,9 @@ same-length c = search needs
 returns-2 : tie.Need-returns-2
 returns-2 c =
     let a = c .before .before .before .before .before .before .before .before .before .before .args in
-    let e = subst (EntriesRead (a .s .now) (entries (a .count) (a .k + 1) (a .hi) [] (drop (a .at) (a .s .now))) (a .start) _ _) (c .before .e .given .1) (c .before .before .before .before .before .entries-at .ensures) in
+    let e =
+    subst (EntriesRead (a .s .now) (entries (a .count) (a .k + 1) (a .hi) [] (drop (a .at) (a .s .now))) (a .start) _ _) (c .before .e .given .1)
+    (c .before .before .before .before .before .entries-at .ensures) in
     listed-refused (a .k) (a .hi) (a .total) (a .count) _ (c .before .before .before .before .before .before .before .if1 .left) e
 
 same-length-2 : tie.Need-same-length-2
@@ -64,9 +68,15 @@ same-length-2 c = search needs
 returns-3 : tie.Need-returns-3
 returns-3 c =
     let a = c .before .before .before .before .before .before .before .before .before .before .before .before .before .before .args in
-    let e = subst (EntriesRead (a .s .now) (entries (a .count) (a .k + 1) (a .hi) [] (drop (a .at) (a .s .now))) (a .start) _ _) (c .before .before .before .before .before .e2 .given .1) (c .before .before .before .before .before .before .before .before .before .entries-at .ensures) in
-    let f = subst (EndRead (a .s .now) (c .before .before .before .before .before .e2 .given .0 .0)) (c .before .f .given .1) (c .before .before .before .line-end-at .ensures) in
-    counted-row (a .k) (a .hi) (a .total) (a .count) (a .at) (a .start) (c .before .before .before .before .before .before .before .before .before .before .before .if1 .left) e (f .goes _) (f .within)
+    let e =
+    subst (EntriesRead (a .s .now) (entries (a .count) (a .k + 1) (a .hi) [] (drop (a .at) (a .s .now))) (a .start) _ _)
+    (c .before .before .before .before .before .e2 .given .1)
+    (c .before .before .before .before .before .before .before .before .before .entries-at .ensures) in
+    let f =
+    subst (EndRead (a .s .now) (c .before .before .before .before .before .e2 .given .0 .0)) (c .before .f .given .1)
+    (c .before .before .before .line-end-at .ensures) in
+    counted-row (a .k) (a .hi) (a .total) (a .count) (a .at) (a .start)
+    (c .before .before .before .before .before .before .before .before .before .before .before .if1 .left) e (f .goes _) (f .within)
 
 same-length-3 : tie.Need-same-length-3
 same-length-3 c = search needs
@@ -74,7 +84,9 @@ same-length-3 c = search needs
 returns-4 : tie.Need-returns-4
 returns-4 c =
     let a = c .before .before .before .before .before .before .before .before .before .before .before .before .before .args in
-    let e = subst (EntriesRead (a .s .now) (entries (a .count) (a .k + 1) (a .hi) [] (drop (a .at) (a .s .now))) (a .start) _ _) (c .before .before .before .before .e2 .given .1) (c .before .before .before .before .before .before .before .before .entries-at .ensures) in
+    let e =
+    subst (EntriesRead (a .s .now) (entries (a .count) (a .k + 1) (a .hi) [] (drop (a .at) (a .s .now))) (a .start) _ _)
+    (c .before .before .before .before .e2 .given .1) (c .before .before .before .before .before .before .before .before .entries-at .ensures) in
     let f = subst (EndRead (a .s .now) (c .before .before .before .before .e2 .given .0 .0)) (c .enum-told .given .1) (c .before .before .line-end-at .ensures) in
     listed-no-end (a .k) (a .hi) (a .total) (a .count) _ (c .before .before .before .before .before .before .before .before .before .before .if1 .left) (e .goes) (f _)
 

@@ -31,7 +31,8 @@ depot-of-requires c κs =
 returns : tie.Need-returns
 returns c =
     let a = c .before .before .before .before .before .before .before .args in
-    depot-refused (a .n) (a .j) (a .total) _ (subst (NumberedRead (a .s .now) (a .at) word-D (a .j)) (c .before .w .given .1) (c .before .before .before .numbered-at .ensures))
+    depot-refused (a .n) (a .j) (a .total) _
+    (subst (NumberedRead (a .s .now) (a .at) word-D (a .j)) (c .before .w .given .1) (c .before .before .before .numbered-at .ensures))
 
 same-length : tie.Need-same-length
 same-length c = search needs
@@ -39,7 +40,9 @@ same-length c = search needs
 returns-2 : tie.Need-returns-2
 returns-2 c =
     let a = c .before .before .before .before .before .before .before .before .before .before .before .args in
-    let w = subst (NumberedRead (a .s .now) (a .at) word-D (a .j)) (c .before .before .before .before .before .w2 .given .1) (c .before .before .before .before .before .before .before .numbered-at .ensures) in
+    let w =
+    subst (NumberedRead (a .s .now) (a .at) word-D (a .j)) (c .before .before .before .before .before .w2 .given .1)
+    (c .before .before .before .before .before .before .before .numbered-at .ensures) in
     subst (λ step. DepotRead (a .s .now) step (a .start) (a .t .now) (c .before .before .depot-of .last .1 .1 .1 .1 .0) (c .before .before .depot-of .result))
     (sym (depot-goes (a .n) (a .j) (a .total) _ (w .goes 1))) (c .before .before .depot-of .ensures)
 

@@ -3,11 +3,9 @@ use Prim.Native.Nat.{_+_, _-_, _*_}
 use mathlib.Core.Path.{refl, subst}
 use native.Mathlib.Omega.{arith}
 use lib.ListN.{drop, length-set}
-use Rattle.meaning.specs.Placement.{depotSize}
-use Rattle.placement_text.specs.Reader.{depotFields, depotLine}
-use Rattle.tables.specs.Cells.{depotCells, depotListCells}
+use Rattle.placement_text.specs.Reader.{depotFields}
 use Rattle.placement_text.specs.Code.{DepotRead}
-use Rattle.placement_text.proofs.Turns.{DepotTurn, turn-start, turn-heads, turn-entries, turn-done, depot-turn-refused, depot-room, depot-turn-on}
+use Rattle.placement_text.proofs.Turns.{DepotTurn, depot-start, depot-heads, depot-entries, depot-done, depot-turn-refused, depot-room, depot-turn-on}
 use Rattle.placement_text.proofs.depot_lines.Statement.{statement}
 use Rattle.placement_text.proofs.depot_lines.Tie as tie
 
@@ -26,7 +24,7 @@ add-first c = omega arith
 loop-holds : tie.Need-loop-holds Inv-loop μ-loop
 loop-holds c =
     let a = c .before .before .before .args in
-    turn-start (depotLine (a .n)) depotSize depotCells depotListCells 3 (3 + 2 * a .n) (a .base) (a .s .now) (a .at) (a .m) (a .h .now) (a .t .now) (omega arith)
+    depot-start (a .n) (a .base) (a .s .now) (a .at) (a .m) (a .h .now) (a .t .now) (omega arith)
 
 cast-depot-at : tie.Need-cast-depot-at Inv-loop μ-loop
 cast-depot-at c = omega arith
@@ -48,7 +46,7 @@ depot-at-requires c κs =
     let T = c .before .before .loop .inv in
     let w = T .within in
     let b = T .small in
-    let e = turn-entries (depotLine (a .n)) depotSize depotCells depotListCells 3 (3 + 2 * a .n) (a .base) T in
+    let e = depot-entries (a .n) (a .base) T in
     omega arith
 
 enum-known-d : tie.Need-enum-known-d Inv-loop μ-loop
@@ -63,18 +61,20 @@ add-t29 c = omega arith
 same-length : tie.Need-same-length Inv-loop μ-loop
 same-length c =
     let a = c .before .before .before .before .before .before .before .before .before .before .before .before .args in
-    turn-heads (depotLine (a .n)) depotSize depotCells depotListCells 3 (3 + 2 * a .n) (a .base) (c .before .before .before .before .before .before .before .before .loop .inv)
+    depot-heads (a .n) (a .base) (c .before .before .before .before .before .before .before .before .loop .inv)
 
 same-length-2 : tie.Need-same-length-2 Inv-loop μ-loop
 same-length-2 c =
     let a = c .before .before .before .before .before .before .before .before .before .before .before .before .args in
-    omega (arith, turn-entries (depotLine (a .n)) depotSize depotCells depotListCells 3 (3 + 2 * a .n) (a .base) (c .before .before .before .before .before .before .before .before .loop .inv))
+    omega (arith, depot-entries (a .n) (a .base) (c .before .before .before .before .before .before .before .before .loop .inv))
 
 returns : tie.Need-returns Inv-loop μ-loop
 returns c =
     let a = c .before .before .before .before .before .before .before .before .before .before .before .before .args in
     let l = c .before .before .before .before .before .before .before .before .loop in
-    let e = subst (DepotRead (a .s .now) (depotFields (a .n) (l .c + 1) (l .total) (drop (l .p) (a .s .now))) (a .base + l .total) (l .t) _) (c .before .d .given .1) (c .before .before .before .before .before .depot-at .ensures) in
+    let e =
+    subst (DepotRead (a .s .now) (depotFields (a .n) (l .c + 1) (l .total) (drop (l .p) (a .s .now))) (a .base + l .total) (l .t) _)
+    (c .before .d .given .1) (c .before .before .before .before .before .depot-at .ensures) in
     depot-turn-refused (a .n) (a .base) (l .inv) (c .before .before .before .before .before .before .before .loop-test .taken) e
 
 enum-known-d-2 : tie.Need-enum-known-d-2 Inv-loop μ-loop
@@ -102,7 +102,7 @@ mul-h c = omega arith
 slice-write-h : tie.Need-slice-write-h Inv-loop μ-loop
 slice-write-h c =
     let a = c .before .before .before .before .before .before .before .before .before .before .before .before .args in
-    omega (arith, turn-heads (depotLine (a .n)) depotSize depotCells depotListCells 3 (3 + 2 * a .n) (a .base) (c .before .before .before .before .before .before .before .before .loop .inv))
+    omega (arith, depot-heads (a .n) (a .base) (c .before .before .before .before .before .before .before .before .loop .inv))
 
 add-h-2 : tie.Need-add-h-2 Inv-loop μ-loop
 add-h-2 c = omega arith
@@ -113,7 +113,7 @@ mul-h-2 c = omega arith
 slice-write-h-2 : tie.Need-slice-write-h-2 Inv-loop μ-loop
 slice-write-h-2 c =
     let a = c .before .before .before .before .before .before .before .before .before .before .before .before .args in
-    let e = turn-heads (depotLine (a .n)) depotSize depotCells depotListCells 3 (3 + 2 * a .n) (a .base) (c .before .before .before .before .before .before .before .before .loop .inv) in
+    let e = depot-heads (a .n) (a .base) (c .before .before .before .before .before .before .before .before .loop .inv) in
     simp length-set (omega arith)
 
 add-h-3 : tie.Need-add-h-3 Inv-loop μ-loop
@@ -125,14 +125,16 @@ mul-h-3 c = omega arith
 slice-write-h-3 : tie.Need-slice-write-h-3 Inv-loop μ-loop
 slice-write-h-3 c =
     let a = c .before .before .before .before .before .before .before .before .before .before .before .before .args in
-    let e = turn-heads (depotLine (a .n)) depotSize depotCells depotListCells 3 (3 + 2 * a .n) (a .base) (c .before .before .before .before .before .before .before .before .loop .inv) in
+    let e = depot-heads (a .n) (a .base) (c .before .before .before .before .before .before .before .before .loop .inv) in
     simp length-set (omega arith)
 
 add-total : tie.Need-add-total Inv-loop μ-loop
 add-total c =
     let a = c .before .before .before .before .before .before .before .before .before .before .before .before .args in
     let l = c .before .before .before .before .before .before .before .before .loop in
-    let r = subst (DepotRead (a .s .now) (depotFields (a .n) (l .c + 1) (l .total) (drop (l .p) (a .s .now))) (a .base + l .total) (l .t) _) (c .before .d2 .given .1) (c .before .before .before .before .before .depot-at .ensures) in
+    let r =
+    subst (DepotRead (a .s .now) (depotFields (a .n) (l .c + 1) (l .total) (drop (l .p) (a .s .now))) (a .base + l .total) (l .t) _)
+    (c .before .d2 .given .1) (c .before .before .before .before .before .depot-at .ensures) in
     omega (arith, depot-room (a .n) (a .base) (l .inv) (c .before .before .before .before .before .before .before .loop-test .taken) r)
 
 add-c : tie.Need-add-c Inv-loop μ-loop
@@ -145,23 +147,25 @@ loop-again : tie.Need-loop-again Inv-loop μ-loop
 loop-again c =
     let a = c .before .before .before .before .before .before .before .before .before .before .before .before .args in
     let l = c .before .before .before .before .before .before .before .before .loop in
-    let r = subst (DepotRead (a .s .now) (depotFields (a .n) (l .c + 1) (l .total) (drop (l .p) (a .s .now))) (a .base + l .total) (l .t) _) (c .before .d2 .given .1) (c .before .before .before .before .before .depot-at .ensures) in
+    let r =
+    subst (DepotRead (a .s .now) (depotFields (a .n) (l .c + 1) (l .total) (drop (l .p) (a .s .now))) (a .base + l .total) (l .t) _)
+    (c .before .d2 .given .1) (c .before .before .before .before .before .depot-at .ensures) in
     depot-turn-on (a .n) (a .base) (l .inv) (c .before .before .before .before .before .before .before .loop-test .taken) r (3 + 2 * a .n + 3 * l .c) refl
 
 same-length-3 : tie.Need-same-length-3 Inv-loop μ-loop
 same-length-3 c =
     let a = c .before .before .before .before .before .args in
-    turn-heads (depotLine (a .n)) depotSize depotCells depotListCells 3 (3 + 2 * a .n) (a .base) (c .before .loop .inv)
+    depot-heads (a .n) (a .base) (c .before .loop .inv)
 
 same-length-4 : tie.Need-same-length-4 Inv-loop μ-loop
 same-length-4 c =
     let a = c .before .before .before .before .before .args in
-    turn-entries (depotLine (a .n)) depotSize depotCells depotListCells 3 (3 + 2 * a .n) (a .base) (c .before .loop .inv)
+    depot-entries (a .n) (a .base) (c .before .loop .inv)
 
 returns-2 : tie.Need-returns-2 Inv-loop μ-loop
 returns-2 c =
     let a = c .before .before .before .before .before .args in
-    turn-done (depotLine (a .n)) depotSize depotCells depotListCells 3 (3 + 2 * a .n) (a .base) (c .before .loop .inv) (omega arith)
+    depot-done (a .n) (a .base) (c .before .loop .inv) (omega arith)
 
 pub depot-lines-spec : {M : Type 1} → statement M
 depot-lines-spec =

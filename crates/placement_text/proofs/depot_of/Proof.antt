@@ -44,8 +44,13 @@ returns-2 : tie.Need-returns-2
 returns-2 c =
     let a = c .before .before .before .before .before .before .before .before .before .before .before .before .before .args in
     let p = c .before .before .before .before .before .before .before .before .w2 .given .0 .1 .0 in
-    let w = subst (PostsRead (a .s .now) (a .at)) (c .before .before .before .before .before .before .before .before .w2 .given .1) (c .before .before .before .before .before .before .before .before .before .before .posts-at .ensures) in
-    let l = subst (ListedRead (a .s .now) (list 4 (a .n) (a .total) (drop p (a .s .now))) (a .start) (a .t .now) (c .before .before .before .before .before .list-at .last .1 .1 .1 .1 .1 .0)) (c .before .l .given .1) (c .before .before .before .before .before .list-at .ensures) in
+    let w =
+    subst (PostsRead (a .s .now) (a .at)) (c .before .before .before .before .before .before .before .before .w2 .given .1)
+    (c .before .before .before .before .before .before .before .before .before .before .posts-at .ensures) in
+    let l =
+    subst
+    (ListedRead (a .s .now) (list 4 (a .n) (a .total) (drop p (a .s .now))) (a .start) (a .t .now) (c .before .before .before .before .before .list-at .last .1 .1 .1 .1 .1 .0))
+    (c .before .l .given .1) (c .before .before .before .before .before .list-at .ensures) in
     depot-list-refused (a .n) (a .total) _ (w .goes .goes 3) l
 
 same-length-2 : tie.Need-same-length-2
@@ -55,8 +60,13 @@ returns-3 : tie.Need-returns-3
 returns-3 c =
     let a = c .before .before .before .before .before .before .before .before .before .before .before .before .before .args in
     let p = c .before .before .before .before .before .before .before .before .w2 .given .0 .1 .0 in
-    let w = subst (PostsRead (a .s .now) (a .at)) (c .before .before .before .before .before .before .before .before .w2 .given .1) (c .before .before .before .before .before .before .before .before .before .before .posts-at .ensures) in
-    let l = subst (ListedRead (a .s .now) (list 4 (a .n) (a .total) (drop p (a .s .now))) (a .start) (a .t .now) (c .before .before .before .before .before .list-at .last .1 .1 .1 .1 .1 .0)) (c .before .l2 .given .1) (c .before .before .before .before .before .list-at .ensures) in
+    let w =
+    subst (PostsRead (a .s .now) (a .at)) (c .before .before .before .before .before .before .before .before .w2 .given .1)
+    (c .before .before .before .before .before .before .before .before .before .before .posts-at .ensures) in
+    let l =
+    subst
+    (ListedRead (a .s .now) (list 4 (a .n) (a .total) (drop p (a .s .now))) (a .start) (a .t .now) (c .before .before .before .before .before .list-at .last .1 .1 .1 .1 .1 .0))
+    (c .before .l2 .given .1) (c .before .before .before .before .before .list-at .ensures) in
     depot-row (a .n) (a .total) (a .at) (a .start) w l
 
 pub depot-of-spec : {M : Type 1} → statement M

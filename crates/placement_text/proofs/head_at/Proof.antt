@@ -34,7 +34,9 @@ enum-known-e c = search needs
 sizes-at-requires : tie.Need-sizes-at-requires
 sizes-at-requires c κs =
     let a = c .before .before .before .before .before .before .before .before .before .before .args in
-    let e = subst (RunningRead (a .s .now) (c .before .before .before .before .before .w .given .0 .0) 1) (c .before .e .given .1) (c .before .before .before .running-at .ensures) in
+    let e =
+    subst (RunningRead (a .s .now) (c .before .before .before .before .before .w .given .0 .0) 1) (c .before .e .given .1)
+    (c .before .before .before .running-at .ensures) in
     e .within
 
 returns : tie.Need-returns
@@ -45,15 +47,21 @@ returns c =
 returns-2 : tie.Need-returns-2
 returns-2 c =
     let a = c .before .before .before .before .before .before .before .before .before .args in
-    let w = subst (KeywordRead (a .s .now) 0 word-placement) (c .before .before .before .before .w .given .1) (c .before .before .before .before .before .before .keyword-at .ensures) in
+    let w =
+    subst (KeywordRead (a .s .now) 0 word-placement) (c .before .before .before .before .w .given .1)
+    (c .before .before .before .before .before .before .keyword-at .ensures) in
     let e = subst (RunningRead (a .s .now) (c .before .before .before .before .w .given .0 .0) 1) (c .enum-told2 .given .1) (c .before .before .running-at .ensures) in
     head-no-edition (a .s .now) (w .goes 1) (e 2)
 
 returns-3 : tie.Need-returns-3
 returns-3 c =
     let a = c .before .before .before .before .before .before .before .before .before .before .before .args in
-    let w = subst (KeywordRead (a .s .now) 0 word-placement) (c .before .before .before .before .before .before .w .given .1) (c .before .before .before .before .before .before .before .before .keyword-at .ensures) in
-    let e = subst (RunningRead (a .s .now) (c .before .before .before .before .before .before .w .given .0 .0) 1) (c .before .before .e .given .1) (c .before .before .before .before .running-at .ensures) in
+    let w =
+    subst (KeywordRead (a .s .now) 0 word-placement) (c .before .before .before .before .before .before .w .given .1)
+    (c .before .before .before .before .before .before .before .before .keyword-at .ensures) in
+    let e =
+    subst (RunningRead (a .s .now) (c .before .before .before .before .before .before .w .given .0 .0) 1) (c .before .before .e .given .1)
+    (c .before .before .before .before .running-at .ensures) in
     head-of-sizes (a .s .now) (c .before .before .e .given .0 .0) (c .sizes-at .result) (head-sizes (a .s .now) (w .goes 1) (e .goes 2)) (c .sizes-at .ensures)
 
 pub head-at-spec : {M : Type 1} → statement M

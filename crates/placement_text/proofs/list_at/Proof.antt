@@ -51,14 +51,20 @@ returns c =
 returns-2 : tie.Need-returns-2
 returns-2 c =
     let a = c .before .before .before .before .before .before .before .before .before .before .args in
-    let l = subst (ReceivedRead (a .s .now) (a .at) (a .hi)) (c .before .before .before .before .before .l2 .given .1) (c .before .before .before .before .before .before .before .received-at .ensures) in
-    let f = subst (EndRead (a .s .now) (c .before .before .before .before .before .l2 .given .0 .0)) (c .before .f .given .1) (c .before .before .before .line-end-at .ensures) in
+    let l =
+    subst (ReceivedRead (a .s .now) (a .at) (a .hi)) (c .before .before .before .before .before .l2 .given .1)
+    (c .before .before .before .before .before .before .before .received-at .ensures) in
+    let f =
+    subst (EndRead (a .s .now) (c .before .before .before .before .before .l2 .given .0 .0)) (c .before .f .given .1)
+    (c .before .before .before .line-end-at .ensures) in
     missing-row _ (a .start) (a .t .now) (list-missing (a .k) (a .hi) (a .total) _ (l .goes (a .k)) (f .goes _)) (f .within)
 
 returns-3 : tie.Need-returns-3
 returns-3 c =
     let a = c .before .before .before .before .before .before .before .before .before .args in
-    let l = subst (ReceivedRead (a .s .now) (a .at) (a .hi)) (c .before .before .before .before .l2 .given .1) (c .before .before .before .before .before .before .received-at .ensures) in
+    let l =
+    subst (ReceivedRead (a .s .now) (a .at) (a .hi)) (c .before .before .before .before .l2 .given .1)
+    (c .before .before .before .before .before .before .received-at .ensures) in
     let f = subst (EndRead (a .s .now) (c .before .before .before .before .l2 .given .0 .0)) (c .enum-told .given .1) (c .before .before .line-end-at .ensures) in
     list-no-end (a .k) (a .hi) (a .total) _ (l .goes (a .k)) (f _)
 
@@ -68,8 +74,12 @@ same-length c = search needs
 returns-4 : tie.Need-returns-4
 returns-4 c =
     let a = c .before .before .before .before .before .before .before .before .before .before .args in
-    let l = subst (ReceivedRead (a .s .now) (a .at) (a .hi)) (c .before .before .before .before .before .l3 .given .1) (c .before .before .before .before .before .before .before .received-at .ensures) in
-    subst (λ step. ListedRead (a .s .now) step (a .start) (a .t .now) (c .before .before .counted-at .last .1 .1 .1 .1 .1 .1 .0) (c .before .before .counted-at .result)) (sym (list-counted (a .k) (a .hi) (a .total) _ (l .goes (a .k)))) (c .before .before .counted-at .ensures)
+    let l =
+    subst (ReceivedRead (a .s .now) (a .at) (a .hi)) (c .before .before .before .before .before .l3 .given .1)
+    (c .before .before .before .before .before .before .before .received-at .ensures) in
+    subst
+    (λ step. ListedRead (a .s .now) step (a .start) (a .t .now) (c .before .before .counted-at .last .1 .1 .1 .1 .1 .1 .0) (c .before .before .counted-at .result))
+    (sym (list-counted (a .k) (a .hi) (a .total) _ (l .goes (a .k)))) (c .before .before .counted-at .ensures)
 
 pub list-at-spec : {M : Type 1} → statement M
 list-at-spec =

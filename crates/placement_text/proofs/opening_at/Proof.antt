@@ -34,7 +34,9 @@ same-word-requires-2 c κs =
 returns-2 : tie.Need-returns-2
 returns-2 c =
     let a = c .before .before .before .before .before .before .before .before .args in
-    opens-barred (a .s .now) (a .at) _ (omega arith) (c .before .before .before .before .before .before .word-end .ensures) (sym (c .before .before .before .before .same-word .ensures) ∙ c .before .before .before .if1 .left) (sym (c .before .same-word2 .ensures) ∙ c .if2 .taken)
+    opens-barred (a .s .now) (a .at) _ (omega arith) (c .before .before .before .before .before .before .word-end .ensures)
+    (sym (c .before .before .before .before .same-word .ensures) ∙ c .before .before .before .if1 .left)
+    (sym (c .before .same-word2 .ensures) ∙ c .if2 .taken)
 
 slice-aggregate-same-word-3 : tie.Need-slice-aggregate-same-word-3
 slice-aggregate-same-word-3 c = search needs
@@ -47,13 +49,17 @@ same-word-requires-3 c κs =
 returns-3 : tie.Need-returns-3
 returns-3 c =
     let a = c .before .before .before .before .before .before .before .before .before .before .before .args in
-    opens-end (a .s .now) (a .at) _ (omega arith) (c .before .before .before .before .before .before .before .before .before .word-end .ensures) (sym (c .before .before .before .before .before .before .before .same-word .ensures) ∙ c .before .before .before .before .before .before .if1 .left) (sym (c .before .before .before .before .same-word2 .ensures) ∙ c .before .before .before .if2 .left)
+    opens-end (a .s .now) (a .at) _ (omega arith) (c .before .before .before .before .before .before .before .before .before .word-end .ensures)
+    (sym (c .before .before .before .before .before .before .before .same-word .ensures) ∙ c .before .before .before .before .before .before .if1 .left)
+    (sym (c .before .before .before .before .same-word2 .ensures) ∙ c .before .before .before .if2 .left)
     (sym (c .before .same-word3 .ensures) ∙ c .if3 .taken)
 
 returns-4 : tie.Need-returns-4
 returns-4 c =
     let a = c .before .before .before .before .before .before .before .before .before .before .before .args in
-    opens-other (a .s .now) (a .at) _ (omega arith) (c .before .before .before .before .before .before .before .before .before .word-end .ensures) (sym (c .before .before .before .before .before .before .before .same-word .ensures) ∙ c .before .before .before .before .before .before .if1 .left) (sym (c .before .before .before .before .same-word2 .ensures) ∙ c .before .before .before .if2 .left)
+    opens-other (a .s .now) (a .at) _ (omega arith) (c .before .before .before .before .before .before .before .before .before .word-end .ensures)
+    (sym (c .before .before .before .before .before .before .before .same-word .ensures) ∙ c .before .before .before .before .before .before .if1 .left)
+    (sym (c .before .before .before .before .same-word2 .ensures) ∙ c .before .before .before .if2 .left)
     (sym (c .before .same-word3 .ensures) ∙ c .if3 .left)
 
 pub opening-at-spec : {M : Type 1} → statement M

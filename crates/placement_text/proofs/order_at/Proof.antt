@@ -60,29 +60,43 @@ returns-2 c =
 returns-3 : tie.Need-returns-3
 returns-3 c =
     let a = c .before .before .before .before .before .before .before .before .args in
-    let w = subst (OpeningRead (a .s .now) (a .at)) (c .before .before .before .before .w .given .1) (c .before .before .before .before .before .before .opening-at .ensures) in
+    let w =
+    subst (OpeningRead (a .s .now) (a .at)) (c .before .before .before .before .w .given .1)
+    (c .before .before .before .before .before .before .opening-at .ensures) in
     let f = subst (FinishRead (a .s .now) (c .before .before .before .before .w .given .0 .0) (a .l)) (c .enum-told2 .given .1) (c .before .before .finish-at .ensures) in
     λ os. orders-end (a .s .now) (a .at) (a .n) (a .m) (a .l) (1024 - a .c) os w ∙ f os
 
 returns-4 : tie.Need-returns-4
 returns-4 c =
     let a = c .before .before .before .before .before .before .before .before .before .args in
-    let w = subst (OpeningRead (a .s .now) (a .at)) (c .before .before .before .before .before .w .given .1) (c .before .before .before .before .before .before .before .opening-at .ensures) in
-    let f = subst (FinishRead (a .s .now) (c .before .before .before .before .before .w .given .0 .0) (a .l)) (c .before .f .given .1) (c .before .before .before .finish-at .ensures) in
+    let w =
+    subst (OpeningRead (a .s .now) (a .at)) (c .before .before .before .before .before .w .given .1)
+    (c .before .before .before .before .before .before .before .opening-at .ensures) in
+    let f =
+    subst (FinishRead (a .s .now) (c .before .before .before .before .before .w .given .0 .0) (a .l)) (c .before .f .given .1)
+    (c .before .before .before .finish-at .ensures) in
     λ os. orders-end (a .s .now) (a .at) (a .n) (a .m) (a .l) (1024 - a .c) os w ∙ f os
 
 returns-5 : tie.Need-returns-5
 returns-5 c =
     let a = c .before .before .before .before .before .before .before .before .before .before .args in
-    let w = subst (OpeningRead (a .s .now) (a .at)) (c .before .before .before .before .before .before .w2 .given .1) (c .before .before .before .before .before .before .before .before .opening-at .ensures) in
-    let f = subst (PairRead (a .s .now) (c .before .before .before .before .before .before .w2 .given .0 .1 .0) (a .n) (a .m)) (c .before .f2 .given .1) (c .before .before .before .pair-at .ensures) in
+    let w =
+    subst (OpeningRead (a .s .now) (a .at)) (c .before .before .before .before .before .before .w2 .given .1)
+    (c .before .before .before .before .before .before .before .before .opening-at .ensures) in
+    let f =
+    subst (PairRead (a .s .now) (c .before .before .before .before .before .before .w2 .given .0 .1 .0) (a .n) (a .m)) (c .before .f2 .given .1)
+    (c .before .before .before .pair-at .ensures) in
     λ os. orders-refused (a .s .now) (a .at) (a .n) (a .m) (a .l) (a .c) (omega (arith, c .before .before .before .before .if1 .left)) (w .opened) os (f (w .kind))
 
 returns-6 : tie.Need-returns-6
 returns-6 c =
     let a = c .before .before .before .before .before .before .before .before .before .before .args in
-    let w = subst (OpeningRead (a .s .now) (a .at)) (c .before .before .before .before .before .before .w2 .given .1) (c .before .before .before .before .before .before .before .before .opening-at .ensures) in
-    let f = subst (PairRead (a .s .now) (c .before .before .before .before .before .before .w2 .given .0 .1 .0) (a .n) (a .m)) (c .before .f3 .given .1) (c .before .before .before .pair-at .ensures) in
+    let w =
+    subst (OpeningRead (a .s .now) (a .at)) (c .before .before .before .before .before .before .w2 .given .1)
+    (c .before .before .before .before .before .before .before .before .opening-at .ensures) in
+    let f =
+    subst (PairRead (a .s .now) (c .before .before .before .before .before .before .w2 .given .0 .1 .0) (a .n) (a .m)) (c .before .f3 .given .1)
+    (c .before .before .before .pair-at .ensures) in
     one-more (a .s .now) (a .at) (a .n) (a .m) (a .l) (a .c) (omega (arith, c .before .before .before .before .if1 .left)) w (f .0) (f .1)
 
 pub order-at-spec : {M : Type 1} → statement M

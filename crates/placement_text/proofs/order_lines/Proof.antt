@@ -40,7 +40,8 @@ returns : tie.Need-returns Inv-loop μ-loop
 returns c =
     let a = c .before .before .before .before .before .before .before .args in
     let l = c .before .before .before .before .loop in
-    pairs-refused (l .inv) (subst (OrderRead (a .s .now) (l .p) (a .n) (a .m) (a .l + l .c) (l .c)) (c .before .x .given .1) (c .before .before .before .order-at .ensures))
+    pairs-refused (l .inv)
+    (subst (OrderRead (a .s .now) (l .p) (a .n) (a .m) (a .l + l .c) (l .c)) (c .before .x .given .1) (c .before .before .before .order-at .ensures))
 
 enum-told : tie.Need-enum-told Inv-loop μ-loop
 enum-told c = omega arith

@@ -28,13 +28,17 @@ same-word-requires c κs =
 returns : tie.Need-returns
 returns c =
     let a = c .before .before .before .before .before .before .before .before .args in
-    let w = subst (FieldRead (a .s .now) (a .at)) (c .before .before .before .before .w .given .1) (c .before .before .before .before .before .before .field-at .ensures) in
+    let w =
+    subst (FieldRead (a .s .now) (a .at)) (c .before .before .before .before .w .given .1)
+    (c .before .before .before .before .before .before .field-at .ensures) in
     record { goes = λ k. received-mark k (a .hi) _ (w .goes k) (sym (c .before .same-word .ensures) ∙ c .if1 .taken); within = w .within }
 
 number-in-requires : tie.Need-number-in-requires
 number-in-requires c κs =
     let a = c .before .before .before .before .before .before .before .before .args in
-    let w = subst (FieldRead (a .s .now) (a .at)) (c .before .before .before .before .w .given .1) (c .before .before .before .before .before .before .field-at .ensures) in
+    let w =
+    subst (FieldRead (a .s .now) (a .at)) (c .before .before .before .before .w .given .1)
+    (c .before .before .before .before .before .before .field-at .ensures) in
     (w .upward, w .within)
 
 enum-told-2 : tie.Need-enum-told-2
@@ -46,9 +50,12 @@ enum-known-n c = search needs
 returns-2 : tie.Need-returns-2
 returns-2 c =
     let a = c .before .before .before .before .before .before .before .before .before .before .before .before .before .args in
-    let w = subst (FieldRead (a .s .now) (a .at)) (c .before .before .before .before .before .before .before .before .before .w .given .1) (c .before .before .before .before .before .before .before .before .before .before .before .field-at .ensures) in
+    let w =
+    subst (FieldRead (a .s .now) (a .at)) (c .before .before .before .before .before .before .before .before .before .w .given .1)
+    (c .before .before .before .before .before .before .before .before .before .before .before .field-at .ensures) in
     let n = num-value _ _ (sym (c .before .before .before .before .number-in .ensures) ∙ c .before .before .n .given .1) in
-    λ k. received-large k (a .hi) _ (w .goes k) (sym (c .before .before .before .before .before .before .same-word .ensures) ∙ c .before .before .before .before .before .if1 .left) n (c .if2 .taken)
+    let m = sym (c .before .before .before .before .before .before .same-word .ensures) ∙ c .before .before .before .before .before .if1 .left in
+    λ k. received-large k (a .hi) _ (w .goes k) m n (c .if2 .taken)
 
 cast-t17 : tie.Need-cast-t17
 cast-t17 c = search needs
@@ -62,16 +69,21 @@ returns-3 c =
 returns-4 : tie.Need-returns-4
 returns-4 c =
     let a = c .before .before .before .before .before .before .before .before .before .before .before .args in
-    let w = subst (FieldRead (a .s .now) (a .at)) (c .before .before .before .before .before .before .before .w .given .1) (c .before .before .before .before .before .before .before .before .before .field-at .ensures) in
+    let w =
+    subst (FieldRead (a .s .now) (a .at)) (c .before .before .before .before .before .before .before .w .given .1)
+    (c .before .before .before .before .before .before .before .before .before .field-at .ensures) in
     let n = num-not _ (sym (c .before .before .number-in .ensures) ∙ c .enum-told2 .given .1) in
     λ k. received-wrong k (a .hi) _ (w .goes k) (sym (c .before .before .before .before .same-word .ensures) ∙ c .before .before .before .if1 .left) n
 
 returns-5 : tie.Need-returns-5
 returns-5 c =
     let a = c .before .before .before .before .before .before .before .before .before .before .before .before .before .args in
-    let w = subst (FieldRead (a .s .now) (a .at)) (c .before .before .before .before .before .before .before .before .before .w .given .1) (c .before .before .before .before .before .before .before .before .before .before .before .field-at .ensures) in
+    let w =
+    subst (FieldRead (a .s .now) (a .at)) (c .before .before .before .before .before .before .before .before .before .w .given .1)
+    (c .before .before .before .before .before .before .before .before .before .before .before .field-at .ensures) in
     let n = num-value _ _ (sym (c .before .before .before .before .number-in .ensures) ∙ c .before .before .n .given .1) in
-    record { goes = λ k. received-is k (a .hi) _ (w .goes k) (sym (c .before .before .before .before .before .before .same-word .ensures) ∙ c .before .before .before .before .before .if1 .left) n (c .if2 .left); within = w .within }
+    let m = sym (c .before .before .before .before .before .before .same-word .ensures) ∙ c .before .before .before .before .before .if1 .left in
+    record { goes = λ k. received-is k (a .hi) _ (w .goes k) m n (c .if2 .left); within = w .within }
 
 pub received-at-spec : {M : Type 1} → statement M
 received-at-spec =

@@ -31,7 +31,9 @@ enum-known-d-2 c = search needs
 line-end-at-requires : tie.Need-line-end-at-requires
 line-end-at-requires c κs =
     let a = c .before .before .before .before .before .before .before .before .before .args in
-    let d = subst (NumberRead (a .s .now) (c .before .before .before .before .before .t2 .given .0 .1 .0) 0 64) (c .before .d2 .given .1) (c .before .before .before .number-at2 .ensures) in
+    let d =
+    subst (NumberRead (a .s .now) (c .before .before .before .before .before .t2 .given .0 .1 .0) 0 64) (c .before .d2 .given .1)
+    (c .before .before .before .number-at2 .ensures) in
     d .within
 
 enum-told : tie.Need-enum-told
@@ -49,24 +51,38 @@ returns c =
 returns-2 : tie.Need-returns-2
 returns-2 c =
     let a = c .before .before .before .before .before .before .before .before .before .args in
-    let t = subst (NumberRead (a .s .now) (a .at) 0 256) (c .before .before .before .before .before .t2 .given .1) (c .before .before .before .before .before .before .before .number-at .ensures) in
-    let d = subst (NumberRead (a .s .now) (c .before .before .before .before .before .t2 .given .0 .1 .0) 0 64) (c .before .d .given .1) (c .before .before .before .number-at2 .ensures) in
+    let t =
+    subst (NumberRead (a .s .now) (a .at) 0 256) (c .before .before .before .before .before .t2 .given .1)
+    (c .before .before .before .before .before .before .before .number-at .ensures) in
+    let d =
+    subst (NumberRead (a .s .now) (c .before .before .before .before .before .t2 .given .0 .1 .0) 0 64) (c .before .d .given .1)
+    (c .before .before .before .number-at2 .ensures) in
     λ e. sizes-no-depots e _ (t .goes 3) (d 4)
 
 returns-3 : tie.Need-returns-3
 returns-3 c =
     let a = c .before .before .before .before .before .before .before .before .before .before .before .before .args in
-    let t = subst (NumberRead (a .s .now) (a .at) 0 256) (c .before .before .before .before .before .before .before .before .t2 .given .1) (c .before .before .before .before .before .before .before .before .before .before .number-at .ensures) in
-    let d = subst (NumberRead (a .s .now) (c .before .before .before .before .before .before .before .before .t2 .given .0 .1 .0) 0 64) (c .before .before .before .before .d2 .given .1) (c .before .before .before .before .before .before .number-at2 .ensures) in
+    let t =
+    subst (NumberRead (a .s .now) (a .at) 0 256) (c .before .before .before .before .before .before .before .before .t2 .given .1)
+    (c .before .before .before .before .before .before .before .before .before .before .number-at .ensures) in
+    let d =
+    subst (NumberRead (a .s .now) (c .before .before .before .before .before .before .before .before .t2 .given .0 .1 .0) 0 64)
+    (c .before .before .before .before .d2 .given .1) (c .before .before .before .before .before .before .number-at2 .ensures) in
     let f = subst (EndRead (a .s .now) (c .before .before .before .before .d2 .given .0 .1 .0)) (c .enum-told .given .1) (c .before .before .line-end-at .ensures) in
     λ e. sizes-no-end e _ (t .goes 3) (d .goes 4) (f 5)
 
 returns-4 : tie.Need-returns-4
 returns-4 c =
     let a = c .before .before .before .before .before .before .before .before .before .before .before .before .before .args in
-    let t = subst (NumberRead (a .s .now) (a .at) 0 256) (c .before .before .before .before .before .before .before .before .before .t2 .given .1) (c .before .before .before .before .before .before .before .before .before .before .before .number-at .ensures) in
-    let d = subst (NumberRead (a .s .now) (c .before .before .before .before .before .before .before .before .before .t2 .given .0 .1 .0) 0 64) (c .before .before .before .before .before .d2 .given .1) (c .before .before .before .before .before .before .before .number-at2 .ensures) in
-    let f = subst (EndRead (a .s .now) (c .before .before .before .before .before .d2 .given .0 .1 .0)) (c .before .f .given .1) (c .before .before .before .line-end-at .ensures) in
+    let t =
+    subst (NumberRead (a .s .now) (a .at) 0 256) (c .before .before .before .before .before .before .before .before .before .t2 .given .1)
+    (c .before .before .before .before .before .before .before .before .before .before .before .number-at .ensures) in
+    let d =
+    subst (NumberRead (a .s .now) (c .before .before .before .before .before .before .before .before .before .t2 .given .0 .1 .0) 0 64)
+    (c .before .before .before .before .before .d2 .given .1) (c .before .before .before .before .before .before .before .number-at2 .ensures) in
+    let f =
+    subst (EndRead (a .s .now) (c .before .before .before .before .before .d2 .given .0 .1 .0)) (c .before .f .given .1)
+    (c .before .before .before .line-end-at .ensures) in
     record {
       goes = λ e. sizes-whole e _ (t .goes 3) (d .goes 4) (f .goes 5);
       within = f .within;

@@ -31,7 +31,8 @@ list-at-requires c κs =
 returns : tie.Need-returns
 returns c =
     let a = c .before .before .before .before .before .before .before .args in
-    trainee-refused (a .m) (a .i) (a .total) _ (subst (NumberedRead (a .s .now) (a .at) word-T (a .i)) (c .before .w .given .1) (c .before .before .before .numbered-at .ensures))
+    trainee-refused (a .m) (a .i) (a .total) _
+    (subst (NumberedRead (a .s .now) (a .at) word-T (a .i)) (c .before .w .given .1) (c .before .before .before .numbered-at .ensures))
 
 same-length : tie.Need-same-length
 same-length c = search needs
@@ -39,7 +40,9 @@ same-length c = search needs
 returns-2 : tie.Need-returns-2
 returns-2 c =
     let a = c .before .before .before .before .before .before .before .before .before .before .before .args in
-    let w = subst (NumberedRead (a .s .now) (a .at) word-T (a .i)) (c .before .before .before .before .before .w2 .given .1) (c .before .before .before .before .before .before .before .numbered-at .ensures) in
+    let w =
+    subst (NumberedRead (a .s .now) (a .at) word-T (a .i)) (c .before .before .before .before .before .w2 .given .1)
+    (c .before .before .before .before .before .before .before .numbered-at .ensures) in
     subst (λ step. ListedRead (a .s .now) step (a .start) (a .t .now) (c .before .before .list-at .last .1 .1 .1 .1 .1 .0) (c .before .before .list-at .result))
     (sym (trainee-listed (a .m) (a .i) (a .total) _ (w .goes 1))) (c .before .before .list-at .ensures)
 

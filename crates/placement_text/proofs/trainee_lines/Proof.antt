@@ -3,11 +3,9 @@ use Prim.Native.Nat.{_+_, _-_}
 use mathlib.Core.Path.{subst}
 use native.Mathlib.Omega.{arith}
 use lib.ListN.{drop, length-set}
-use Rattle.meaning.specs.Placement.{size}
-use Rattle.placement_text.specs.Reader.{traineeFields, traineeLine}
-use Rattle.tables.specs.Cells.{traineeCells, listCells}
+use Rattle.placement_text.specs.Reader.{traineeFields}
 use Rattle.placement_text.specs.Code.{ListedRead}
-use Rattle.placement_text.proofs.Turns.{TraineeTurn, turn-start, turn-heads, turn-entries, turn-done, trainee-turn-refused, trainee-room, trainee-turn-on}
+use Rattle.placement_text.proofs.Turns.{TraineeTurn, trainee-start, trainee-heads, trainee-entries, trainee-done, trainee-turn-refused, trainee-room, trainee-turn-on}
 use Rattle.placement_text.proofs.trainee_lines.Statement.{statement}
 use Rattle.placement_text.proofs.trainee_lines.Tie as tie
 
@@ -20,7 +18,7 @@ abbrev μ-loop : tie.MeasureT-loop
 loop-holds : tie.Need-loop-holds Inv-loop μ-loop
 loop-holds c =
     let a = c .before .before .before .args in
-    turn-start (traineeLine (a .m)) size traineeCells listCells 2 3 0 (a .s .now) (a .at) (a .n) (a .h .now) (a .t .now) (omega arith)
+    trainee-start (a .m) (a .s .now) (a .at) (a .n) (a .h .now) (a .t .now) (omega arith)
 
 add-trainee-at : tie.Need-add-trainee-at Inv-loop μ-loop
 add-trainee-at c = omega arith
@@ -34,7 +32,7 @@ trainee-at-requires c κs =
     let T = c .before .before .loop .inv in
     let w = T .within in
     let b = T .small in
-    let e = turn-entries (traineeLine (a .m)) size traineeCells listCells 2 3 0 T in
+    let e = trainee-entries (a .m) T in
     omega arith
 
 enum-known-l : tie.Need-enum-known-l Inv-loop μ-loop
@@ -44,16 +42,22 @@ add-t21 : tie.Need-add-t21 Inv-loop μ-loop
 add-t21 c = omega arith
 
 same-length : tie.Need-same-length Inv-loop μ-loop
-same-length c = turn-heads (traineeLine (c .before .before .before .before .before .before .before .before .before .before .before .before .args .m)) size traineeCells listCells 2 3 0 (c .before .before .before .before .before .before .before .before .loop .inv)
+same-length c =
+    trainee-heads (c .before .before .before .before .before .before .before .before .before .before .before .before .args .m)
+    (c .before .before .before .before .before .before .before .before .loop .inv)
 
 same-length-2 : tie.Need-same-length-2 Inv-loop μ-loop
-same-length-2 c = omega (arith, turn-entries (traineeLine (c .before .before .before .before .before .before .before .before .before .before .before .before .args .m)) size traineeCells listCells 2 3 0 (c .before .before .before .before .before .before .before .before .loop .inv))
+same-length-2 c =
+    let a = c .before .before .before .before .before .before .before .before .before .before .before .before .args in
+    omega (arith, trainee-entries (a .m) (c .before .before .before .before .before .before .before .before .loop .inv))
 
 returns : tie.Need-returns Inv-loop μ-loop
 returns c =
     let a = c .before .before .before .before .before .before .before .before .before .before .before .before .args in
     let l = c .before .before .before .before .before .before .before .before .loop in
-    let e = subst (ListedRead (a .s .now) (traineeFields (a .m) (l .c + 1) (l .total) (drop (l .p) (a .s .now))) (l .total) (l .t) _) (c .before .l .given .1) (c .before .before .before .before .before .trainee-at .ensures) in
+    let e =
+    subst (ListedRead (a .s .now) (traineeFields (a .m) (l .c + 1) (l .total) (drop (l .p) (a .s .now))) (l .total) (l .t) _)
+    (c .before .l .given .1) (c .before .before .before .before .before .trainee-at .ensures) in
     trainee-turn-refused (a .m) (l .inv) (c .before .before .before .before .before .before .before .loop-test .taken) e
 
 enum-known-l-2 : tie.Need-enum-known-l-2 Inv-loop μ-loop
@@ -76,7 +80,7 @@ mul-h-2 c = omega arith
 slice-write-h : tie.Need-slice-write-h Inv-loop μ-loop
 slice-write-h c =
     let a = c .before .before .before .before .before .before .before .before .before .before .before .before .args in
-    omega (arith, turn-heads (traineeLine (a .m)) size traineeCells listCells 2 3 0 (c .before .before .before .before .before .before .before .before .loop .inv))
+    omega (arith, trainee-heads (a .m) (c .before .before .before .before .before .before .before .before .loop .inv))
 
 mul-h-3 : tie.Need-mul-h-3 Inv-loop μ-loop
 mul-h-3 c = omega arith
@@ -90,14 +94,16 @@ mul-h-4 c = omega arith
 slice-write-h-2 : tie.Need-slice-write-h-2 Inv-loop μ-loop
 slice-write-h-2 c =
     let a = c .before .before .before .before .before .before .before .before .before .before .before .before .args in
-    let e = turn-heads (traineeLine (a .m)) size traineeCells listCells 2 3 0 (c .before .before .before .before .before .before .before .before .loop .inv) in
+    let e = trainee-heads (a .m) (c .before .before .before .before .before .before .before .before .loop .inv) in
     simp length-set (omega arith)
 
 add-total : tie.Need-add-total Inv-loop μ-loop
 add-total c =
     let a = c .before .before .before .before .before .before .before .before .before .before .before .before .args in
     let l = c .before .before .before .before .before .before .before .before .loop in
-    let r = subst (ListedRead (a .s .now) (traineeFields (a .m) (l .c + 1) (l .total) (drop (l .p) (a .s .now))) (l .total) (l .t) _) (c .before .l2 .given .1) (c .before .before .before .before .before .trainee-at .ensures) in
+    let r =
+    subst (ListedRead (a .s .now) (traineeFields (a .m) (l .c + 1) (l .total) (drop (l .p) (a .s .now))) (l .total) (l .t) _)
+    (c .before .l2 .given .1) (c .before .before .before .before .before .trainee-at .ensures) in
     omega (arith, trainee-room (a .m) (l .inv) (c .before .before .before .before .before .before .before .loop-test .taken) r)
 
 add-c : tie.Need-add-c Inv-loop μ-loop
@@ -110,17 +116,19 @@ loop-again : tie.Need-loop-again Inv-loop μ-loop
 loop-again c =
     let a = c .before .before .before .before .before .before .before .before .before .before .before .before .args in
     let l = c .before .before .before .before .before .before .before .before .loop in
-    let r = subst (ListedRead (a .s .now) (traineeFields (a .m) (l .c + 1) (l .total) (drop (l .p) (a .s .now))) (l .total) (l .t) _) (c .before .l2 .given .1) (c .before .before .before .before .before .trainee-at .ensures) in
+    let r =
+    subst (ListedRead (a .s .now) (traineeFields (a .m) (l .c + 1) (l .total) (drop (l .p) (a .s .now))) (l .total) (l .t) _)
+    (c .before .l2 .given .1) (c .before .before .before .before .before .trainee-at .ensures) in
     trainee-turn-on (a .m) (l .inv) (c .before .before .before .before .before .before .before .loop-test .taken) r
 
 same-length-3 : tie.Need-same-length-3 Inv-loop μ-loop
-same-length-3 c = turn-heads (traineeLine (c .before .before .before .before .before .args .m)) size traineeCells listCells 2 3 0 (c .before .loop .inv)
+same-length-3 c = trainee-heads (c .before .before .before .before .before .args .m) (c .before .loop .inv)
 
 same-length-4 : tie.Need-same-length-4 Inv-loop μ-loop
-same-length-4 c = turn-entries (traineeLine (c .before .before .before .before .before .args .m)) size traineeCells listCells 2 3 0 (c .before .loop .inv)
+same-length-4 c = trainee-entries (c .before .before .before .before .before .args .m) (c .before .loop .inv)
 
 returns-2 : tie.Need-returns-2 Inv-loop μ-loop
-returns-2 c = turn-done (traineeLine (c .before .before .before .before .before .args .m)) size traineeCells listCells 2 3 0 (c .before .loop .inv) (omega arith)
+returns-2 c = trainee-done (c .before .before .before .before .before .args .m) (c .before .loop .inv) (omega arith)
 
 pub trainee-lines-spec : {M : Type 1} → statement M
 trainee-lines-spec =
