@@ -2,3 +2,5 @@
 pub mod Lawful
 pub mod Visiting
 pub mod Turns
+pub mod Ending
+pub mod Searches

@@ -8,7 +8,14 @@ ghost use Rattle.meaning.specs.Strikes.{mutualPairs};
 ghost use Rattle.meaning.specs.Solver.{rowBy, rowsBy, sweepsBy};
 ghost use Rattle.ranks.specs.View.{nOf, wishesOf, marketOf};
 ghost use Rattle.strikes.specs.Cells.{strikesIn};
+ghost use Rattle.meaning.specs.Endings.{broken?, firstBroken, leftTable, room?, roomFrom};
+ghost use Rattle.meaning.specs.Numbers.{smallest};
+ghost use Rattle.ranks.specs.View.{mOf};
+ghost use Rattle.reasons.specs.Reasons.{numberOr};
+ghost use Rattle.reasons.specs.Orders.{FullOrders, orderIn, ordersIn};
+ghost use Rattle.tables.specs.Cells.{laid};
 ghost use Rattle.solver.specs.Going.{Going, Came, visitOf};
+ghost use Rattle.solver.specs.Ends.{struckIn, leftIn, brokenIn, brokenPair, roomOf, leftBy, Kept, Counted};
 use meaning::Strike;
 use reasons::Choice;
 
@@ -120,4 +127,114 @@ fn sweep_all(
         }
         used = next;
     }
+}
+
+// What the search for a held pair that is struck or not mutual finds.
+pub enum Held {
+    Broken(u16, u16),
+    Unbroken,
+}
+
+// What the search for a pair of kind 2 finds: the trainee and the depot.
+pub enum Room {
+    At(u16, u16),
+    Nowhere,
+}
+
+// Whether the pair isn't left: struck, or not mutual.
+fn is_gone(heads: &[u16], entries: &[u16], rows: &[u64], i: usize, j: usize) -> bool
+    requires { ⌜ Kept (now heads) (now entries) (now rows) × In (nOf (now heads)) i ⌝ }
+    ensures { λ r. ⌜ r ≡ brokenIn (now (heads .entry)) (now (entries .entry)) (now (rows .entry)) i j ⌝ }
+{
+    let wishes = ranks::trainee_part(heads, entries, i);
+    let p = ranks::place_on(wishes, j);
+    if p == 0 {
+        return true;
+    }
+    rows::marked(rows[i], p - 1)
+}
+
+// Whether the order at k holds a pair that isn't left.
+fn breaks(heads: &[u16], entries: &[u16], orders: &[u16], rows: &[u64], k: usize) -> bool
+    requires { ⌜ Kept (now heads) (now entries) (now rows) × FullOrders (now heads) (now orders) × (k < getD (now orders) 0 0) × (k ≤ 65535) ⌝ }
+    ensures { λ r. ⌜ r ≡ broken? (marketOf (now (heads .entry)) (now (entries .entry))) (struckIn (now (heads .entry)) (now (entries .entry)) (now (rows .entry))) (orderIn (now (orders .entry)) k) ⌝ }
+{
+    let at = tables::order_at(k);
+    if tables::order_kind(orders, at) != 0 {
+        return false;
+    }
+    let i = tables::order_trainee(orders, at);
+    let j = tables::order_depot(orders, at);
+    is_gone(heads, entries, rows, i, j)
+}
+
+// The first held pair, in file order, that is struck or isn't mutual.
+fn first_broken(heads: &[u16], entries: &[u16], orders: &[u16], rows: &[u64]) -> Held
+    requires { ⌜ Kept (now heads) (now entries) (now rows) × FullOrders (now heads) (now orders) ⌝ }
+    ensures { λ r. ⌜ r ≡ brokenPair (firstBroken (marketOf (now (heads .entry)) (now (entries .entry))) (struckIn (now (heads .entry)) (now (entries .entry)) (now (rows .entry))) (ordersIn (now (orders .entry)) (getD (now (orders .entry)) 0 0))) ⌝ }
+{
+    let count = tables::orders_of(orders);
+    let mut k: usize = 0;
+    while k < count {
+        if breaks(heads, entries, orders, rows, k) {
+            let at = tables::order_at(k);
+            return Held::Broken(orders[at + 1], orders[at + 2]);
+        }
+        k += 1;
+    }
+    Held::Unbroken
+}
+
+// The depot left to trainee i, 0 where none is.
+fn left_to(heads: &[u16], entries: &[u16], rows: &[u64], i: usize) -> u16
+    requires { ⌜ Kept (now heads) (now entries) (now rows) × In (nOf (now heads)) i ⌝ }
+    ensures { λ r. ⌜ r ≡ leftIn (now (heads .entry)) (now (entries .entry)) (now (rows .entry)) i ⌝ }
+{
+    let wishes = ranks::trainee_part(heads, entries, i);
+    let p = rows::first_left(rows[i]);
+    if p < wishes.len() { wishes[p] } else { 0 }
+}
+
+// Lays the left table over the front of a table.
+fn fill_left(heads: &[u16], entries: &[u16], rows: &[u64], table: &mut [u16])
+    requires { ⌜ Kept (now heads) (now entries) (now rows) × (nOf (now heads) ≤ length (now table)) ⌝ }
+    ensures { λ _. ⌜ now (table .exit) ≡ laid (leftTable (marketOf (now (heads .entry)) (now (entries .entry))) (wishesOf (now (heads .entry)) (now (entries .entry))) (struckIn (now (heads .entry)) (now (entries .entry)) (now (rows .entry)))) (now (table .entry)) ⌝ }
+{
+    let n = tables::trainees_of(heads);
+    let mut k: usize = 0;
+    while k < n {
+        table[k] = left_to(heads, entries, rows, k + 1);
+        k += 1;
+    }
+}
+
+// The smallest trainee who has everything down to depot j struck, if the depot has room in the left table; 0 for none.
+fn room_at(heads: &[u16], entries: &[u16], rows: &[u64], counts: &[u16; 65], j: usize) -> u16
+    requires { ⌜ Kept (now heads) (now entries) (now rows) × Counted (now heads) (now entries) (now rows) (now counts) × In (mOf (now heads)) j ⌝ }
+    ensures { λ r. ⌜ numberOr r ≡ smallest (nOf (now (heads .entry))) (λ i. room? (marketOf (now (heads .entry)) (now (entries .entry))) (struckIn (now (heads .entry)) (now (entries .entry)) (now (rows .entry))) (leftBy (now (heads .entry)) (now (entries .entry)) (now (rows .entry))) i j) ⌝ }
+{
+    let posts = ranks::posts_at(heads, entries, j);
+    if posts <= reasons::wide(counts[j]) {
+        return 0;
+    }
+    let ranking = ranks::depot_part(heads, entries, j);
+    let t = reasons::pass_along(heads, entries, rows, ranking, j);
+    t.passed
+}
+
+// The pair of kind 2 with the smallest depot and then the smallest trainee.
+fn first_room(heads: &[u16], entries: &[u16], rows: &[u64], counts: &[u16; 65]) -> Room
+    requires { ⌜ Kept (now heads) (now entries) (now rows) × Counted (now heads) (now entries) (now rows) (now counts) ⌝ }
+    ensures { λ r. ⌜ roomOf r ≡ roomFrom (marketOf (now (heads .entry)) (now (entries .entry))) (struckIn (now (heads .entry)) (now (entries .entry)) (now (rows .entry))) (leftBy (now (heads .entry)) (now (entries .entry)) (now (rows .entry))) (mOf (now (heads .entry))) 1 ⌝ }
+{
+    let m = tables::depots_of(heads);
+    let mut j: usize = 1;
+    while j <= m {
+        let i = room_at(heads, entries, rows, counts, j);
+        if i != 0 {
+            return Room::At(i, j as u16);
+        }
+        j += 1;
+    }
+    Room::Nowhere
 }
