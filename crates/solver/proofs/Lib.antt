@@ -4,3 +4,4 @@ pub mod Visiting
 pub mod Turns
 pub mod Ending
 pub mod Searches
+pub mod Whole

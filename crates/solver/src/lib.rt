@@ -6,7 +6,7 @@ ghost use lib.ListN.{length, getD};
 ghost use Rattle.meaning.specs.Numbers.{In};
 ghost use Rattle.meaning.specs.Strikes.{mutualPairs};
 ghost use Rattle.meaning.specs.Solver.{rowBy, rowsBy, sweepsBy};
-ghost use Rattle.ranks.specs.View.{nOf, wishesOf, marketOf};
+ghost use Rattle.ranks.specs.View.{nOf, wishesOf, marketOf, FullTables};
 ghost use Rattle.strikes.specs.Cells.{strikesIn};
 ghost use Rattle.meaning.specs.Endings.{broken?, firstBroken, leftTable, room?, roomFrom};
 ghost use Rattle.meaning.specs.Numbers.{smallest};
@@ -14,8 +14,16 @@ ghost use Rattle.ranks.specs.View.{mOf};
 ghost use Rattle.reasons.specs.Reasons.{numberOr};
 ghost use Rattle.reasons.specs.Orders.{FullOrders, orderIn, ordersIn};
 ghost use Rattle.tables.specs.Cells.{laid};
+ghost use mathlib.Core.Option.{some};
+ghost use Rattle.meaning.specs.Full.{Full, whole, full};
+ghost use Rattle.meaning.specs.Placement.{Placement};
+ghost use Rattle.meaning.specs.Solver.{WholeRuling, solve};
+ghost use Rattle.tables.specs.Decode.{placementOf};
 ghost use Rattle.solver.specs.Going.{Going, Came, visitOf};
+ghost use Rattle.solver.specs.Solved.{AllStruck, endingIn, tableBy, SolvedAs};
 ghost use Rattle.solver.specs.Ends.{struckIn, leftIn, brokenIn, brokenPair, roomOf, leftBy, Kept, Counted};
+use meaning::Ending;
+use meaning::Ruling;
 use meaning::Strike;
 use reasons::Choice;
 
@@ -237,4 +245,88 @@ fn first_room(heads: &[u16], entries: &[u16], rows: &[u64], counts: &[u16; 65]) 
         j += 1;
     }
     Room::Nowhere
+}
+
+// How many trainees the left table gives each depot.
+fn counts_left(heads: &[u16], entries: &[u16], rows: &[u64]) -> [u16; 65]
+    requires { ⌜ Kept (now heads) (now entries) (now rows) ⌝ }
+    ensures { λ r. ⌜ Counted (now (heads .entry)) (now (entries .entry)) (now (rows .entry)) r ⌝ }
+{
+    let n = tables::trainees_of(heads);
+    let mut left: [u16; 256] = [0; 256];
+    fill_left(heads, entries, rows, &mut left);
+    stability::counts_of(&left[0..n])
+}
+
+// The ending: a broken hold, else a pair of kind 2, else placed.
+fn ending_of(heads: &[u16], entries: &[u16], orders: &[u16], rows: &[u64]) -> Ending
+    requires { ⌜ Kept (now heads) (now entries) (now rows) × FullOrders (now heads) (now orders) ⌝ }
+    ensures { λ r. ⌜ r ≡ endingIn (now (heads .entry)) (now (entries .entry)) (now (orders .entry)) (now (rows .entry)) ⌝ }
+{
+    let held = first_broken(heads, entries, orders, rows);
+    if let Held::Broken(i, j) = held {
+        return Ending::NoneHeld(i, j);
+    }
+    let counts = counts_left(heads, entries, rows);
+    let room = first_room(heads, entries, rows, &counts);
+    match room {
+        Room::At(i, j) => Ending::NoneRoom(i, j),
+        Room::Nowhere => Ending::Placed,
+    }
+}
+
+// Fills the table where the ruling places; a none leaves it as it is.
+fn lay_table(heads: &[u16], entries: &[u16], rows: &[u64], ending: Ending, table: &mut [u16])
+    requires { ⌜ Kept (now heads) (now entries) (now rows) × (nOf (now heads) ≤ length (now table)) ⌝ }
+    ensures { λ _. ⌜ now (table .exit) ≡ tableBy ending (leftTable (marketOf (now (heads .entry)) (now (entries .entry))) (wishesOf (now (heads .entry)) (now (entries .entry))) (struckIn (now (heads .entry)) (now (entries .entry)) (now (rows .entry)))) (now (table .entry)) ⌝ }
+{
+    match ending {
+        Ending::Placed => {
+            fill_left(heads, entries, rows, table);
+        }
+        Ending::NoneHeld(_, _) => {}
+        Ending::NoneRoom(_, _) => {}
+    }
+}
+
+// All strikes, from the tables alone: the orders gathered, the start rows made, and the sweeps.
+fn strike_all(
+    heads: &[u16],
+    entries: &[u16],
+    orders: &[u16],
+    rows: &mut [u64],
+    cells: &mut [u16],
+) -> usize
+    requires { ⌜ FullTables (now heads) (now entries) × FullOrders (now heads) (now orders) × (nOf (now heads) < length (now rows)) × (16384 ≤ length (now cells)) ⌝ }
+    ensures { λ r. ⌜ AllStruck (now (heads .entry)) (now (entries .entry)) (now (orders .entry)) (now (rows .exit)) (now (cells .exit)) r ⌝ }
+{
+    let mut holds: [u64; 257] = [0; 257];
+    let mut bars: [u64; 257] = [0; 257];
+    reasons::note_orders(heads, entries, orders, &mut holds, &mut bars);
+    reasons::start_rows(heads, entries, rows);
+    sweep_all(heads, entries, &holds, &bars, rows, cells)
+}
+
+// The solver on plain cells, four to a strike: the ruling, its record in the cells and its table.
+pub fn solve_cells(
+    heads: &[u16],
+    entries: &[u16],
+    orders: &[u16],
+    table: &mut [u16],
+    cells: &mut [u16],
+) -> Ruling
+    requires { ⌜ FullTables (now heads) (now entries) × FullOrders (now heads) (now orders) × (256 ≤ length (now table)) × (16384 ≤ length (now cells)) ⌝ }
+    ensures { λ r. ⌜ ((p : Placement) (F : Full) → placementOf (now (heads .entry)) (now (entries .entry)) (now (orders .entry)) ≡ some p → full p ≡ whole F → (w : WholeRuling) → solve F (p .orders) ≡ some w
+        → SolvedAs w (now (table .entry)) (now (table .exit)) (now (cells .exit)) r) ⌝ }
+{
+    let n = tables::trainees_of(heads);
+    let mut rows: [u64; 257] = [0; 257];
+    let used = strike_all(heads, entries, orders, &mut rows, cells);
+    let ending = ending_of(heads, entries, orders, &rows);
+    lay_table(heads, entries, &rows, ending, table);
+    Ruling {
+        trainees: n as u16,
+        strikes: used as u16,
+        ending: ending,
+    }
 }

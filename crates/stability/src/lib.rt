@@ -66,7 +66,7 @@ fn first_stranger(heads: &[u16], entries: &[u16], table: &[u16]) -> Found
 }
 
 // How many trainees a table gives each depot, so that no pair counts them again.
-fn counts_of(table: &[u16]) -> [u16; 65]
+pub fn counts_of(table: &[u16]) -> [u16; 65]
     requires { ⌜ (length (now table) ≤ 256) × ((i : ℕ) → In (length (now table)) i → tableOf (now table) i ≤ 64) ⌝ }
     ensures { λ r. ⌜ Counts (tableOf (now (table .entry))) (length (now (table .entry))) r ⌝ }
 {
