@@ -5,3 +5,4 @@ pub mod Turns
 pub mod Ending
 pub mod Searches
 pub mod Whole
+pub mod Guards

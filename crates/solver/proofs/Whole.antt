@@ -161,6 +161,14 @@ full-orders h e o F os seen = record {
     past : Order
     past = record { kind = held; trainee = 0; depot = 0 }
 
+module _ (h e o : List ℕ) (F : Full) (os : List Order) (seen : TablesSeen h e o F os) where
+  orders-are : ordersAll o ≡ os
+  orders-are = orders-same (length (F .trainees)) (length (F .depots)) o os (seen .orders)
+
+  pub orders-fine : LegalOrders F os
+  orders-fine = subst (LegalOrders F) orders-are
+      (rw (← seen .sides .trainees, ← seen .sides .depots) (orders-legal h o (full-orders h e o F os seen) (getD o 0 0) (omega arith)))
+
 trainees-count : (F : Full) → market F .n ≡ length (F .trainees)
 unfolding market
 trainees-count F = refl
@@ -172,31 +180,30 @@ module _ (h e o rows cells : List ℕ) (used : ℕ) (F : Full) (os : List Order)
   lists-are : traineeList F ≡ wishesOf h e
   lists-are = lists-held h e F (seen .sides)
 
-  orders-are : ordersAll o ≡ os
-  orders-are = orders-same (length (F .trainees)) (length (F .depots)) o os (seen .orders)
+  orders-here : ordersAll o ≡ os
+  orders-here = orders-are h e o F os seen
 
   the-strikes : strikesOf F os ≡ strikesFor h e o
   unfolding strikesOf marketOf
-  the-strikes = rw (K-is, lists-are, orders-are)
+  the-strikes = rw (K-is, lists-are, orders-here)
 
   legal-here : LegalFull F
   legal-here = seen .sides .legal
 
   fine : LegalOrders F os
-  fine = subst (LegalOrders F) orders-are
-      (rw (← seen .sides .trainees, ← seen .sides .depots) (orders-legal h o (full-orders h e o F os seen) (getD o 0 0) (omega arith)))
+  fine = orders-fine h e o F os seen
 
   S-is : struck nothing (strikesOf F os) ≡ struckIn h e rows
   S-is = ap (struck nothing) the-strikes ∙ sym (done .struck-is)
 
   exhausted-here : Exhausted (marketOf h e) (standing (ordersAll o)) (struckIn h e rows)
-  exhausted-here = rw (← K-is, ← S-is, orders-are) (strikes-exhausted F legal-here os fine)
+  exhausted-here = rw (← K-is, ← S-is, orders-here) (strikes-exhausted F legal-here os fine)
 
   lawful-here : Lawful (marketOf h e) (standing (ordersAll o))
-  lawful-here = rw (← K-is, orders-are) (lawful-market F legal-here os fine)
+  lawful-here = rw (← K-is, orders-here) (lawful-market F legal-here os fine)
 
   outcome-here : outcomeOf (market F) (traineeList F) os (struck nothing (strikesOf F os)) ≡ outcomeOf (marketOf h e) (wishesOf h e) (ordersAll o) (struckIn h e rows)
-  outcome-here = rw (S-is, K-is, lists-are, orders-are)
+  outcome-here = rw (S-is, K-is, lists-are, orders-here)
 
   abbrev left-cells : List ℕ
   left-cells = leftTable (marketOf h e) (wishesOf h e) (struckIn h e rows)

@@ -2,3 +2,4 @@
 pub mod Going
 pub mod Ends
 pub mod Solved
+pub mod Answer
