@@ -23,7 +23,7 @@ trainees-of-requires : tie.Need-trainees-of-requires
 trainees-of-requires c κs = search needs
 
 returns-2 : tie.Need-returns-2
-returns-2 c = let a = c .before .before .before .before .before .before .before .before .before .args in other-number (a .heads .now) (a .entries .now) (a .orders .now) (a .n) (a .table .now) (sym (c .before .before .before .before .used-cells-ok .ensures) ∙ not-false _ (c .before .before .before .if1 .left)) (λ z. c .if2 .taken (c .before .trainees-of .ensures ∙ z ∙ sym (c .before .before .wide .ensures)))
+returns-2 c = let a = c .before .before .before .before .before .before .before .before .before .args in other-number (a .heads .now) (a .entries .now) (a .orders .now) (a .n) (a .table .now) (sym (c .before .before .before .before .used-cells-ok .ensures) ∙ not-false _ (c .before .before .before .if1 .left)) (λ z. omega (arith, c .if2 .taken, c .before .trainees-of .ensures, c .before .before .wide .ensures))
 
 sub-depots-ok : tie.Need-sub-depots-ok
 sub-depots-ok c = search needs
@@ -39,8 +39,9 @@ depots-ok-requires c κs = search needs
 
 returns-3 : tie.Need-returns-3
 returns-3 c = let a = c .before .before .before .before .before .before .before .before .before .before .before .args in
-    let e : c .before .before .before .before .wide .result - 0 ≡ a .n = omega (arith, c .before .before .before .before .wide .ensures) in
-    c .depots-ok .ensures ∙ ap (λ (k : ℕ). readDepots (take k (a .table .now))) e ∙ same-number (a .heads .now) (a .entries .now) (a .orders .now) (a .n) (a .table .now) (sym (c .before .before .before .before .before .before .used-cells-ok .ensures) ∙ not-false _ (c .before .before .before .before .before .if1 .left)) (sym (c .before .before .before .trainees-of .ensures) ∙ c .before .before .if2 .left ∙ c .before .before .before .before .wide .ensures)
+    let end : c .before .before .before .before .wide .result - 0 ≡ a .n = omega (arith, c .before .before .before .before .wide .ensures) in
+    c .depots-ok .ensures ∙ ap (λ (k : ℕ). readDepots (take k (a .table .now))) end
+    ∙ same-number (a .heads .now) (a .entries .now) (a .orders .now) (a .n) (a .table .now) (sym (c .before .before .before .before .before .before .used-cells-ok .ensures) ∙ not-false _ (c .before .before .before .before .before .if1 .left)) (omega (arith, c .before .before .before .trainees-of .ensures, c .before .before .if2 .left, c .before .before .before .before .wide .ensures))
 
 pub read-ok-spec : {M : Type 1} → statement M
 read-ok-spec =
