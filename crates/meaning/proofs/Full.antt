@@ -14,7 +14,7 @@ use Rattle.meaning.specs.Placement.{Kind, held, barred, Order, Depot, de
 use Rattle.meaning.specs.Full.{FullDepot, Full, Received, whole, lacking, andThen, onLine, fullDepot, allFrom, full, notReceived, depotLacks, linesWhere, lackingLines}
 use Rattle.meaning.specs.Market.{traineeList, noDepot, depotOf, market, names, standing, Ranged, Strict, Lawful}
 use Rattle.meaning.proofs.Numbers.{order}
-use Rattle.meaning.proofs.Lists.{here, at, place-inj, each-place, each-at, some-use}
+use Rattle.meaning.proofs.Lists.{at, place-inj, each-place, each-at, some-use}
 use Rattle.meaning.proofs.Matchings.{names-trainee, names-depot}
 
 -- ---- one after the other
@@ -85,6 +85,13 @@ length-map : {A B : Type 0} (g : A → B) (l : List A) → length (map g l) ≡ 
 length-map g [] = refl
 length-map g (x ∷ l) = ap suc (length-map g l)
 
+-- as many trainees, as many depots
+pub full-trainees : (p : Placement) (F : Full) → full p ≡ whole F → length (p .trainees) ≡ length (F .trainees)
+full-trainees p F h = ap length (full-back p F h .trainees) ∙ length-map some (F .trainees)
+
+pub full-depots : (p : Placement) (F : Full) → full p ≡ whole F → length (p .depots) ≡ length (F .depots)
+full-depots p F h = ap length (full-back p F h .depots) ∙ length-map received (F .depots)
+
 -- ---- a legal placement's market is lawful
 
 -- the sides hold distinct numbers in range
@@ -115,11 +122,8 @@ LegalOrders F os = Each (LegalOrder (length (F .trainees)) (length (F .depots)))
 
 pub legal-orders : (p : Placement) (F : Full) → Legal p → full p ≡ whole F → LegalOrders F (p .orders)
 legal-orders p F legal h =
-    let back = full-back p F h in
-    let n : length (p .trainees) ≡ length (F .trainees) = ap length (back .trainees) ∙ length-map some (F .trainees) in
-    let m : length (p .depots) ≡ length (F .depots) = ap length (back .depots) ∙ length-map received (F .depots) in
-    subst (λ k. Each (LegalOrder (length (F .trainees)) k) (p .orders)) m
-    (subst (λ k. Each (LegalOrder k (length (p .depots))) (p .orders)) n (legal .orders))
+    subst (λ k. Each (LegalOrder (length (F .trainees)) k) (p .orders)) (full-depots p F h)
+    (subst (λ k. Each (LegalOrder k (length (p .depots))) (p .orders)) (full-trainees p F h) (legal .orders))
 
 module _ (F : Full) (legal : LegalFull F) where
   nothing-ranked : (hi : ℕ) → LegalEntries hi []

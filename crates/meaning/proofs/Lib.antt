@@ -19,3 +19,6 @@ pub mod Checker
 pub mod Existence
 pub mod Stability
 pub mod Paper
+pub mod Demands
+pub mod Legal
+pub mod Examples

@@ -12,3 +12,5 @@ pub mod Checker
 pub mod Stability
 pub mod Truth
 pub mod Paper
+pub mod Demands
+pub mod Examples

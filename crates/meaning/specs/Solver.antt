@@ -8,15 +8,17 @@ use mathlib.Core.List.{List, [], _∷_, _++_}
 use lib.ListN.{length}
 use lib.Dec.{eqb}
 use Rattle.meaning.specs.Numbers.{smallest}
-use Rattle.meaning.specs.Placement.{Order, Placement}
-use Rattle.meaning.specs.Full.{Full, Received, whole, lacking, andThen, full}
-use Rattle.meaning.specs.Market.{Market, Standing, market, standing, traineeList}
-use Rattle.meaning.specs.Answers.{reasonNumber, reasonWitness}
+use Rattle.meaning.specs.Placement.{Order, depot, Placement, size}
+use Rattle.meaning.specs.Full.{Full, Received, whole, andThen, full}
+use Rattle.meaning.specs.Market.{Market, traineeList, market, Standing, standing}
 use Rattle.meaning.specs.Strikes.{Struck, nothing, fits, struck, left?, mutualPairs}
-use Rattle.meaning.specs.Endings.{Outcome, outcomeOf}
+use Rattle.meaning.specs.Endings.{Outcome, placed-by, none-held, none-room, outcomeOf}
+use Rattle.meaning.specs.Answers.{reasonNumber, reasonWitness}
 use Rattle.meaning.specs.declared.Reason.{Reason}
 use Rattle.meaning.specs.declared.Reason.the-variants.{Barred, HeldElsewhere, PostsGone, Passed}
 use Rattle.meaning.specs.declared.Strike.{Strike}
+use Rattle.meaning.specs.declared.Ending.{Ending}
+use Rattle.meaning.specs.declared.Ruling.{Ruling}
 
 -- ---- a sweep, whatever is done at a place: a visit takes the trainee, the depot and the state
 
@@ -41,9 +43,9 @@ sweepsBy {A} visit size lists n (suc d) a =
 
 -- which reasons fit: barred, held elsewhere with its smallest depot, posts gone, passed with its smallest trainee
 unfoldable pub lowest : Bool → Option ℕ → Bool → Option ℕ → Option Reason
-lowest true depot gone trainee = some Barred
-lowest false (some j) gone trainee = some (HeldElsewhere j)
-lowest false none true trainee = some PostsGone
+lowest true elsewhere gone passed = some Barred
+lowest false (some j) gone passed = some (HeldElsewhere j)
+lowest false none true passed = some PostsGone
 lowest false none false (some k) = some (Passed k)
 lowest false none false none = none
 
@@ -86,6 +88,16 @@ pub record WholeRuling : Type 0 where
   pub trainees : ℕ
   pub strikes : List Strike
   pub outcome : Outcome
+
+-- the ending beside the table
+unfoldable pub endingOf : Outcome → Ending
+endingOf (placed-by l) = Ending.Placed
+endingOf (none-held i j) = Ending.NoneHeld i j
+endingOf (none-room i j) = Ending.NoneRoom i j
+
+-- the ruling beside its record and its table; the number of strikes is the length of the record
+unfoldable pub headOf : WholeRuling → Ruling
+headOf r = record { trainees = r .trainees; strikes = length (r .strikes); ending = endingOf (r .outcome) }
 
 unfoldable pub rulingBy : ℕ → List Strike → Option Outcome → Option WholeRuling
 rulingBy n rec none = none
