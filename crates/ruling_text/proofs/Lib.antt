@@ -1,1 +1,6 @@
--- The ruling text there and back.
+-- The ruling text there and back, and the test of a ruling.
+pub mod Decides
+pub mod Strikes
+pub mod Outcomes
+pub mod Short
+pub mod Round

@@ -1,6 +1,6 @@
 -- How a ruling text is read, and what is refused (document 01, "The two texts" and "Numbers given back").
 -- Assumes nothing.
-use Prim.Native.Nat.{ℕ, zero, suc, _+_}
+use Prim.Native.Nat.{ℕ, _+_}
 use mathlib.Core.Bool.{true, false}
 use mathlib.Core.List.{List, []}
 use lib.ListN.{length}
@@ -11,7 +11,7 @@ use Rattle.meaning.specs.declared.Reason.{Reason}
 use Rattle.meaning.specs.declared.Reason.the-variants.{Barred, HeldElsewhere, PostsGone, Passed}
 use Rattle.meaning.specs.declared.Strike.{Strike}
 use Rattle.fields.specs.Bytes.{wordOf, restOf, same, word-end}
-use Rattle.fields.specs.Reader.{Step, got, refusal, Reader, next, _>>=_, _>>_, pure, line, lineEnd, keyword, atEnd, number, running, lines}
+use Rattle.fields.specs.Reader.{Step, got, refusal, Reader, _>>=_, _>>_, pure, line, lineEnd, keyword, atEnd, number, running, lines}
 use Rattle.ruling_text.specs.Words.{word-ruling, word-S, word-A, word-N}
 use Rattle.ruling_text.specs.Legal.{DEPOTS, STRIKES}
 
