@@ -19,7 +19,7 @@ use Rattle.fields.proofs.Words.{Word, stops, word-there, rest-there, word-rest,
 use Rattle.fields.proofs.Lines.{Line, lines-there, lines-back}
 use Rattle.ruling_text.specs.Words.{word-A, word-N}
 use Rattle.ruling_text.specs.Legal.{DEPOTS, LegalOutcome, legal-table, legal-held, legal-room}
-use Rattle.ruling_text.specs.Writer.{writeCell, writeNone, writeOutcome, writeEnd}
+use Rattle.ruling_text.specs.Writer.{writeNumbers, writeLine, writeCell, writeNone, writeOutcome, writeEnd}
 use Rattle.ruling_text.specs.Reader.{Pair, pair, weightless, cellFields, cellLine, noneOf, noneFields, table, outcome, endFields, finish}
 use Rattle.ruling_text.proofs.Strikes.{weightless-sum, pair-there, pair-back}
 
@@ -34,7 +34,7 @@ abbrev LegalCell : ℕ → Type 0
 LegalCell j = j ≤ DEPOTS
 
 cell-there : (s i total j : ℕ) (r : List ℕ) → i ≤ 256 → LegalCell j → total + weightless j ≤ 0 → cellLine s i total (writeCell i j ++ r) ≡ got j r
-unfolding cellLine cellFields writeCell
+unfolding cellLine cellFields writeCell writeLine writeNumbers
 cell-there s i total j r hi hj t =
     simp append-assoc
     (rw (
@@ -48,7 +48,7 @@ abbrev CellLine : ℕ → ℕ → ℕ → List ℕ → ℕ → List ℕ → Type
 CellLine s = Line (cellLine s) weightless writeCell LegalCell 0
 
 cell-fields : (s i total : ℕ) (t : List ℕ) {j : ℕ} {r : List ℕ} → cellFields i t ≡ got j r → CellLine s i total t j r
-unfolding cellFields writeCell weightless
+unfolding cellFields writeCell writeLine writeNumbers weightless
 cell-fields s i total t {j} {r} h =
     let a = went (keyword word-A t) _ h in
     let b = went (running 2 i (a .rest)) _ (a .on) in
@@ -102,7 +102,7 @@ none-of n (suc (suc zero)) p l h i j = (legal-room i j, refl)
 none-of n (suc (suc (suc k))) p l h i j = absurd (omega arith)
 
 none-back : (n : ℕ) (s : List ℕ) {o : Outcome} {r : List ℕ} → noneFields n s ≡ got o r → OutcomeRead n (word-N ++ s) r o
-unfolding noneFields writeNone
+unfolding noneFields writeNone writeLine writeNumbers
 none-back n s {o} {r} h =
     let a = went (number 2 1 2 s) _ h in
     let b = went (pair 3 n (a .rest)) _ (a .on) in
@@ -128,13 +128,13 @@ none-back n s {o} {r} h =
 
 -- a table's first word, or the end line's, isn't the word of a line that says why there is none
 table-word : (l : List ℕ) → same (wordOf (writeLines writeCell 1 l ++ writeEnd)) word-N ≡ false
-unfolding writeLines writeCell writeNumber wordOf stop? same _&_
+unfolding writeLines writeCell writeLine writeNumbers writeNumber wordOf stop? same _&_
 table-word [] = refl
 table-word (j ∷ l) = refl
 
 none-outcome : (n s k i j : ℕ) (r : List ℕ) → n ≤ 256 → 1 ≤ k → k ≤ 2 → In n i → In DEPOTS j
     → outcome n s (writeNone k i j ++ r) ≡ got (noneOf k (record { trainee = i; depot = j })) r
-unfolding outcome writeNone
+unfolding outcome writeNone writeLine writeNumbers
 none-outcome n s k i j r hn l h hi hj =
     let rest : List ℕ = writeNumber k ++ (writeNumber i ++ (writeNumber j ++ LF ∷ r)) in
     let t : stops rest ≡ true = number-stops k (writeNumber i ++ (writeNumber j ++ LF ∷ r)) in

@@ -10,7 +10,7 @@ use native.Mathlib.Omega.{arith}
 use lib.ListN.{length, length-append}
 use Rattle.meaning.specs.Numbers.{In}
 use Rattle.meaning.specs.Lists.{Each, each-none, each-more}
-use Rattle.meaning.specs.Answers.{reasonNumber, reasonWitness}
+use Rattle.meaning.specs.Answers.{reasonNumber, reasonWitness, strikeNumbers}
 use Rattle.meaning.specs.Endings.{Outcome}
 use Rattle.meaning.specs.Solver.{WholeRuling}
 use Rattle.meaning.specs.declared.Reason.{Reason}
@@ -18,7 +18,7 @@ use Rattle.meaning.specs.declared.Strike.{Strike}
 use Rattle.fields.specs.Writer.{writeNumber, writeLines}
 use Rattle.fields.proofs.Digits.{tenTo, digits-at-most}
 use Rattle.ruling_text.specs.Legal.{DEPOTS, LegalReason, legal-barred, legal-elsewhere, legal-gone, legal-passed, LegalStrike, LegalOutcome, legal-table, legal-held, legal-room, LegalRuling}
-use Rattle.ruling_text.specs.Writer.{writeStrike, writeCell, writeNone, writeOutcome, writeHead, rulingText}
+use Rattle.ruling_text.specs.Writer.{writeNumbers, writeLine, writeStrike, writeCell, writeNone, writeOutcome, writeHead, rulingText}
 
 -- ---- a number with its tab, by how many digits it has
 
@@ -61,17 +61,17 @@ reason-short hn legal-gone = omega (arith, one-digit-short 3 (omega arith), one-
 reason-short hn (legal-passed {k = k} h) = omega (arith, one-digit-short 4 (omega arith), three-digits-short k (omega (arith, h .high)))
 
 strike-short : (n k : ℕ) (x : Strike) → n ≤ 256 → LegalStrike n x → length (writeStrike k x) ≤ 15
-unfolding writeStrike
+unfolding writeStrike writeLine writeNumbers strikeNumbers
 strike-short n k x hn h =
     simp length-append
     (omega (arith, three-digits-short (x .trainee) (omega (arith, h .trainee .high)), two-digits-short (x .depot) (omega (arith, h .depot .high)), reason-short hn (h .reason)))
 
 cell-short : (i j : ℕ) → i ≤ 256 → j ≤ DEPOTS → length (writeCell i j) ≤ 9
-unfolding writeCell
+unfolding writeCell writeLine writeNumbers
 cell-short i j hi hj = simp length-append (omega (arith, three-digits-short i (omega arith), two-digits-short j (omega arith)))
 
 none-short : (n k i j : ℕ) → n ≤ 256 → k < 10 → In n i → In DEPOTS j → length (writeNone k i j) ≤ 11
-unfolding writeNone
+unfolding writeNone writeLine writeNumbers
 none-short n k i j hn hk hi hj =
     simp length-append
     (omega (arith, one-digit-short k hk, three-digits-short i (omega (arith, hi .high)), two-digits-short j (omega (arith, hj .high))))
@@ -84,7 +84,7 @@ outcome-short {n} hn (legal-held {i = i} {j = j} hi hj) = omega (arith, none-sho
 outcome-short {n} hn (legal-room {i = i} {j = j} hi hj) = omega (arith, none-short n 2 i j hn (omega arith) hi hj)
 
 pub ruling-short : (r : WholeRuling) → LegalRuling r → length (rulingText r) ≤ 65536
-unfolding rulingText writeHead
+unfolding rulingText writeHead writeLine writeNumbers
 ruling-short r g =
     let n : ℕ = r .trainees in
     simp length-append

@@ -8,7 +8,7 @@ use native.Mathlib.Omega.{arith}
 use lib.Dec.{lit<}
 use Rattle.meaning.specs.Numbers.{In}
 use Rattle.meaning.specs.Lists.{each-none, each-more, weigh}
-use Rattle.meaning.specs.Answers.{reasonNumber, reasonWitness}
+use Rattle.meaning.specs.Answers.{reasonNumber, reasonWitness, strikeNumbers}
 use Rattle.meaning.specs.declared.Reason.{Reason}
 use Rattle.meaning.specs.declared.Strike.{Strike}
 use Rattle.fields.specs.Bytes.{LF, stop?}
@@ -19,7 +19,7 @@ use Rattle.fields.proofs.Words.{Word, stops, end-there, end-back, keyword-there
 use Rattle.fields.proofs.Lines.{Line}
 use Rattle.ruling_text.specs.Words.{word-S}
 use Rattle.ruling_text.specs.Legal.{DEPOTS, LegalReason, legal-barred, legal-elsewhere, legal-gone, legal-passed, LegalStrike}
-use Rattle.ruling_text.specs.Writer.{writeStrike}
+use Rattle.ruling_text.specs.Writer.{writeNumbers, writeLine, writeStrike}
 use Rattle.ruling_text.specs.Reader.{Pair, pair, lowWitness, highWitness, reasonOf, reason, strikeFields, strikeLine, weightless}
 
 pub weightless-sum : {A : Type 0} (xs : List A) → weigh weightless xs ≡ 0
@@ -143,7 +143,7 @@ S-word = each-more refl each-none
 
 pub strike-there : (n : ℕ) → n ≤ 256 → (k total : ℕ) (x : Strike) (r : List ℕ) → k ≤ 4096 → LegalStrike n x → total + weightless x ≤ 0
     → strikeLine n k total (writeStrike k x ++ r) ≡ got x r
-unfolding strikeLine strikeFields writeStrike
+unfolding strikeLine strikeFields writeStrike writeLine writeNumbers strikeNumbers
 strike-there n hn k total x r hk g t =
     let r₁ : List ℕ = writeNumber (reasonNumber (x .reason)) ++ (writeNumber (reasonWitness (x .reason)) ++ LF ∷ r) in
     let r₂ : List ℕ = writeNumber (x .trainee) ++ (writeNumber (x .depot) ++ r₁) in
@@ -159,7 +159,7 @@ abbrev pub StrikeLine : ℕ → ℕ → ℕ → List ℕ → Strike → List ℕ
 StrikeLine n = Line (strikeLine n) weightless writeStrike (LegalStrike n) 0
 
 strike-fields : (n k total : ℕ) (s : List ℕ) {x : Strike} {r : List ℕ} → strikeFields n s ≡ got x r → StrikeLine n k total s x r
-unfolding strikeFields writeStrike weightless
+unfolding strikeFields writeStrike writeLine writeNumbers strikeNumbers weightless
 strike-fields n k total s {x} {r} h =
     let a = went (keyword word-S s) _ h in
     let b = went (pair 2 n (a .rest)) _ (a .on) in

@@ -7,7 +7,7 @@ use mathlib.Core.Bool.{Bool, true, false}
 use mathlib.Core.List.{List, [], _∷_, map}
 use lib.ListN.{length, replicate}
 use Rattle.meaning.specs.Numbers.{_&_}
-use Rattle.meaning.specs.Answers.{reasonNumber, reasonWitness}
+use Rattle.meaning.specs.Answers.{reasonNumber, reasonWitness, strikeNumbers}
 use Rattle.meaning.specs.Endings.{Outcome, placed-by, none-held, none-room}
 use Rattle.meaning.specs.Solver.{WholeRuling}
 use Rattle.meaning.specs.declared.Reason.{Reason}
@@ -19,7 +19,7 @@ use Rattle.fields.specs.Reader.{unless, first, field, lineEnd, keyword, atEnd, 
 use Rattle.fields.specs.Writer.{writeNumber, writeLines}
 use Rattle.fields.specs.Shown.{shown}
 use Rattle.ruling_text.specs.Legal.{every?, in?, legalReason?, legalStrike?, legalOutcome?, legalRuling?}
-use Rattle.ruling_text.specs.Writer.{writeStrike, writeCell, writeNone, writeOutcome, writeHead, rulingText}
+use Rattle.ruling_text.specs.Writer.{writeNumbers, writeLine, writeStrike, writeCell, writeNone, writeOutcome, writeHead, rulingText}
 use Rattle.ruling_text.specs.Reader.{pair, lowWitness, highWitness, reasonOf, reason, strikeFields, strikeLine, weightless, cellFields, cellLine, noneOf, noneFields, table, outcome, linesOf, endFields, finish, headFields, body, ruling, Read, taken, refused, answer, readRuling}
 
 rulingOf : ℕ → List Strike → Outcome → WholeRuling
@@ -33,7 +33,7 @@ unfolding _&_ stop? wordOf restOf same digit? value leads numberOf unless first 
 read s = readRuling s
 
 write : WholeRuling → List ℕ
-unfolding reasonNumber reasonWitness digits digitsOf writeNumber writeLines writeStrike writeCell writeNone writeOutcome writeHead rulingText
+unfolding reasonNumber reasonWitness digits digitsOf writeNumber writeLines writeNumbers writeLine strikeNumbers writeStrike writeCell writeNone writeOutcome writeHead rulingText
 write r = rulingText r
 
 -- ---- texts that are taken, and the rulings that they say

@@ -3,7 +3,7 @@
 use Prim.Native.Nat.{ℕ}
 use mathlib.Core.List.{List, [], _∷_, _++_}
 use lib.ListN.{length}
-use Rattle.meaning.specs.Answers.{reasonNumber, reasonWitness}
+use Rattle.meaning.specs.Answers.{strikeNumbers}
 use Rattle.meaning.specs.Endings.{Outcome, placed-by, none-held, none-room}
 use Rattle.meaning.specs.Solver.{WholeRuling}
 use Rattle.meaning.specs.declared.Strike.{Strike}
@@ -11,18 +11,26 @@ use Rattle.fields.specs.Bytes.{LF, word-end}
 use Rattle.fields.specs.Writer.{writeNumber, writeLines}
 use Rattle.ruling_text.specs.Words.{word-ruling, word-S, word-A, word-N}
 
+-- numbers, a field each
+unfoldable pub writeNumbers : List ℕ → List ℕ
+writeNumbers [] = []
+writeNumbers (v ∷ vs) = writeNumber v ++ writeNumbers vs
+
+-- a line: a word, and then numbers
+unfoldable pub writeLine : List ℕ → List ℕ → List ℕ
+writeLine w vs = w ++ writeNumbers vs ++ LF ∷ []
+
 -- trainee, depot, reason, witness; strikes have no running number
 unfoldable pub writeStrike : ℕ → Strike → List ℕ
-writeStrike k x =
-    word-S ++ writeNumber (x .trainee) ++ writeNumber (x .depot)
-    ++ writeNumber (reasonNumber (x .reason)) ++ writeNumber (reasonWitness (x .reason)) ++ LF ∷ []
+writeStrike k x = writeLine word-S (strikeNumbers x)
 
 -- trainee i has the depot j, 0 for none
 unfoldable pub writeCell : ℕ → ℕ → List ℕ
-writeCell i j = word-A ++ writeNumber i ++ writeNumber j ++ LF ∷ []
+writeCell i j = writeLine word-A (i ∷ j ∷ [])
 
+-- kind, trainee, depot
 unfoldable pub writeNone : ℕ → ℕ → ℕ → List ℕ
-writeNone k i j = word-N ++ writeNumber k ++ writeNumber i ++ writeNumber j ++ LF ∷ []
+writeNone k i j = writeLine word-N (k ∷ i ∷ j ∷ [])
 
 -- a line for each trainee, or one line that says why there is no table
 unfoldable pub writeOutcome : Outcome → List ℕ
@@ -30,8 +38,9 @@ writeOutcome (placed-by l) = writeLines writeCell 1 l
 writeOutcome (none-held i j) = writeNone 1 i j
 writeOutcome (none-room i j) = writeNone 2 i j
 
+-- edition, number of trainees, number of strikes
 unfoldable pub writeHead : ℕ → ℕ → List ℕ
-writeHead n s = word-ruling ++ writeNumber 1 ++ writeNumber n ++ writeNumber s ++ LF ∷ []
+writeHead n s = writeLine word-ruling (1 ∷ n ∷ s ∷ [])
 
 abbrev pub writeEnd : List ℕ
 writeEnd = word-end ++ LF ∷ []
