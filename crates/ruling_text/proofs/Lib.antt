@@ -4,3 +4,6 @@ pub mod Strikes
 pub mod Outcomes
 pub mod Short
 pub mod Round
+pub mod Written
+pub mod Quads
+pub mod Parts

@@ -3,4 +3,5 @@ pub mod Words
 pub mod Legal
 pub mod Writer
 pub mod Reader
+pub mod Cells
 pub mod Examples
