@@ -7,3 +7,4 @@ pub mod Round
 pub mod Written
 pub mod Quads
 pub mod Parts
+pub mod Ways

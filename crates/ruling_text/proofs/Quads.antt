@@ -10,16 +10,16 @@ use Rattle.meaning.specs.Answers.{strikeNumbers}
 use Rattle.meaning.specs.declared.Strike.{Strike}
 use Rattle.ruling_text.specs.Words.{word-S}
 use Rattle.ruling_text.specs.Writer.{writeLine, writeStrike}
-use Rattle.ruling_text.specs.Cells.{strikeCells, strikesFrom, strikesIn}
+use Rattle.ruling_text.specs.Cells.{joined, strikeCells, strikesFrom, strikesIn}
 
 pub quads-length : (xs : List Strike) → length (strikeCells xs) ≡ 4 * length xs
-unfolding strikeCells strikeNumbers
+unfolding strikeCells joined strikeNumbers
 quads-length [] = refl
 quads-length (x ∷ xs) = omega (arith, quads-length xs)
 
 -- the four cells of strike i
 quad-at : (xs : List Strike) (i : ℕ) (d : Strike) → i < length xs → take 4 (drop (4 * i) (strikeCells xs)) ≡ strikeNumbers (getD xs i d)
-unfolding strikeCells strikeNumbers
+unfolding strikeCells joined strikeNumbers
 quad-at [] i d h = absurd (omega arith)
 quad-at (x ∷ xs) zero d h = refl
 quad-at (x ∷ xs) (suc i) d h =

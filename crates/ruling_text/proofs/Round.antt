@@ -21,7 +21,7 @@ use Rattle.fields.proofs.Lines.{lines-there, lines-back}
 use Rattle.ruling_text.specs.Words.{word-ruling}
 use Rattle.ruling_text.specs.Legal.{STRIKES, LegalStrike, LegalRuling}
 use Rattle.ruling_text.specs.Writer.{writeNumbers, writeLine, writeStrike, writeOutcome, writeHead, writeEnd, rulingText}
-use Rattle.ruling_text.specs.Reader.{strikeLine, weightless, outcome, linesOf, finish, Head, headFields, body, ruling, taken, answer, readRuling}
+use Rattle.ruling_text.specs.Reader.{strikeLine, weightless, outcome, linesOf, finish, Head, sizes, headFields, body, ruling, taken, answer, readRuling}
 use Rattle.ruling_text.proofs.Strikes.{weightless-sum, strike-there, strike-back}
 use Rattle.ruling_text.proofs.Outcomes.{outcome-there, outcome-back, finish-there, finish-back}
 use Rattle.ruling_text.proofs.Short.{ruling-short}
@@ -33,7 +33,7 @@ unfolding stop?
 ruling-word = each-more refl (each-more refl (each-more refl (each-more refl (each-more refl (each-more refl each-none)))))
 
 head-there : (n s : ℕ) (r : List ℕ) → n ≤ 256 → s ≤ STRIKES → headFields (writeHead n s ++ r) ≡ got (record { n = n; s = s }) r
-unfolding headFields writeHead writeLine writeNumbers
+unfolding headFields sizes writeHead writeLine writeNumbers
 head-there n s r hn hs =
     let r₁ : List ℕ = writeNumber s ++ LF ∷ r in
     let r₂ : List ℕ = writeNumber n ++ r₁ in
@@ -52,7 +52,7 @@ record HeadRead (s r : List ℕ) (h : Head) : Type 0 where
   text : s ≡ writeHead (h .n) (h .s) ++ r
 
 head-back : (s : List ℕ) {h : Head} {r : List ℕ} → headFields s ≡ got h r → HeadRead s r h
-unfolding headFields writeHead writeLine writeNumbers
+unfolding headFields sizes writeHead writeLine writeNumbers
 head-back s {h} {r} e =
     let a = went (keyword word-ruling s) _ e in
     let b = went (running 2 1 (a .rest)) _ (a .on) in

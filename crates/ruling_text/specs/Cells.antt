@@ -13,10 +13,13 @@ use Rattle.meaning.specs.declared.Ending.the-variants.{Placed, NoneHeld, NoneRo
 use Rattle.ruling_text.specs.Legal.{LegalRuling}
 use Rattle.ruling_text.specs.Reader.{reasonOf}
 
+unfoldable pub joined : {A : Type 0} → (A → List ℕ) → List A → List ℕ
+joined f [] = []
+joined f (x ∷ xs) = f x ++ joined f xs
+
 -- the cells of strikes: trainee, depot, the reason's number and the witness of each
 unfoldable pub strikeCells : List Strike → List ℕ
-strikeCells [] = []
-strikeCells (x ∷ xs) = strikeNumbers x ++ strikeCells xs
+strikeCells xs = joined strikeNumbers xs
 
 -- the cells of a table; without one none is used
 unfoldable pub tableCells : Outcome → List ℕ

@@ -4,4 +4,5 @@ pub mod Legal
 pub mod Writer
 pub mod Reader
 pub mod Cells
+pub mod Code
 pub mod Examples

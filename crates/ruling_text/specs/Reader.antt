@@ -123,14 +123,18 @@ pub record Head : Type 0 where
   pub n : ℕ
   pub s : ℕ
 
-unfoldable pub headFields : Reader Head
-headFields = do
-  keyword word-ruling
-  running 2 1
+unfoldable pub sizes : Reader Head
+sizes = do
   n ← number 3 0 256
   s ← number 4 0 STRIKES
   lineEnd 5
   pure (record { n = n; s = s })
+
+unfoldable pub headFields : Reader Head
+headFields = do
+  keyword word-ruling
+  running 2 1
+  sizes
 
 unfoldable pub body : Head → Reader WholeRuling
 body h = do

@@ -1,13 +1,202 @@
 // The ruling text on plain cells: four cells to a strike (trainee, depot, the reason's number, witness), one cell of the table to a trainee.
 ghost use mathlib.Core.Path.{_≡_};
 ghost use Prim.Native.Nat.{_+_, _*_, _≤_};
-ghost use lib.ListN.{length, take};
+ghost use lib.ListN.{length, take, drop};
+ghost use lib.Seq.{sets};
 ghost use Rattle.fields.specs.Leaves.{Put};
 ghost use Rattle.fields.specs.Writer.{writeLines};
 ghost use Rattle.ruling_text.specs.Legal.{LegalOutcome};
+ghost use Rattle.meaning.specs.Answers.{strikeNumbers};
+ghost use Rattle.ruling_text.specs.Reader.{pair, lowWitness, highWitness, reason, strikeFields, strikeLine, cellFields, cellLine, weightless, sizes, headFields};
+ghost use Rattle.ruling_text.specs.Code.{pairNumbers, reasonNumbers, cellNumbers, headNumbers, OneRead, TwoRead, FourRead, RowsRead};
 ghost use Rattle.ruling_text.specs.Writer.{writeNumbers, writeLine, writeStrike, writeCell, writeOutcome, rulingText};
 ghost use Rattle.ruling_text.specs.Cells.{strikeCells, strikesIn, outcomeIn, rulingIn, Held};
+use fields::Found;
+use fields::Ranged;
 use meaning::Ending;
+
+// A number and where it stopped; or the refusal's number and field.
+pub enum One {
+    Is(u16, usize),
+    Not(u16, u16),
+}
+
+// Two numbers and where they stopped; or the refusal's number and field.
+pub enum Two {
+    Are(u16, u16, usize),
+    Not(u16, u16),
+}
+
+// Four numbers and where they stopped; or the refusal's number and field.
+pub enum Four {
+    Are(u16, u16, u16, u16, usize),
+    Not(u16, u16),
+}
+
+// Where lines stopped; or the refusal's number, line and field.
+pub enum Rows {
+    To(usize),
+    Refused(u16, u16, u16),
+}
+
+// A trainee of 1 to n in the field k at `at`, and a depot in the next.
+fn pair_at(s: &[u8], at: usize, k: u16, n: u16) -> Two
+    requires { ⌜ (at ≤ length (now s)) × (k ≤ 3) ⌝ }
+    ensures { λ r. ⌜ TwoRead pairNumbers (now (s .entry)) (pair k n (drop at (now (s .entry)))) r ⌝ }
+{
+    let i = fields::number_at(s, at, 1, n);
+    match i {
+        Ranged::Not(e) => Two::Not(e, k),
+        Ranged::Is(trainee, p) => {
+            let j = fields::number_at(s, p, 1, 64);
+            match j {
+                Ranged::Not(e) => Two::Not(e, k + 1),
+                Ranged::Is(depot, next) => Two::Are(trainee, depot, next),
+            }
+        }
+    }
+}
+
+// The lowest witness that a reason can have, by its number.
+fn low_witness(k: u16) -> u16
+    ensures { λ r. ⌜ r ≡ lowWitness k ⌝ }
+{
+    match k {
+        2 | 4 => 1,
+        _ => 0,
+    }
+}
+
+// The highest one, where there are n trainees.
+fn high_witness(n: u16, k: u16) -> u16
+    ensures { λ r. ⌜ r ≡ highWitness n k ⌝ }
+{
+    match k {
+        2 => 64,
+        4 => n,
+        _ => 0,
+    }
+}
+
+// The reason's number and its witness, in the fields 4 and 5 of a strike.
+fn reason_at(s: &[u8], at: usize, n: u16) -> Two
+    requires { ⌜ at ≤ length (now s) ⌝ }
+    ensures { λ r. ⌜ TwoRead reasonNumbers (now (s .entry)) (reason n (drop at (now (s .entry)))) r ⌝ }
+{
+    let k = fields::number_at(s, at, 1, 4);
+    match k {
+        Ranged::Not(e) => Two::Not(e, 4),
+        Ranged::Is(number, p) => {
+            let w = fields::number_at(s, p, low_witness(number), high_witness(n, number));
+            match w {
+                Ranged::Not(e) => Two::Not(e, 5),
+                Ranged::Is(witness, next) => Two::Are(number, witness, next),
+            }
+        }
+    }
+}
+
+// A strike's line.
+fn strike_at(s: &[u8], at: usize, n: u16) -> Four
+    requires { ⌜ at ≤ length (now s) ⌝ }
+    ensures { λ r. ⌜ FourRead strikeNumbers (now (s .entry)) (strikeFields n (drop at (now (s .entry)))) r ⌝ }
+{
+    let word = fields::keyword_at(s, at, b"S");
+    match word {
+        Found::Wrong => Four::Not(3, 1),
+        Found::To(p) => {
+            let pair = pair_at(s, p, 2, n);
+            match pair {
+                Two::Not(e, f) => Four::Not(e, f),
+                Two::Are(i, j, q) => {
+                    let reason = reason_at(s, q, n);
+                    match reason {
+                        Two::Not(e, f) => Four::Not(e, f),
+                        Two::Are(k, w, r) => {
+                            let end = fields::line_end_at(s, r);
+                            match end {
+                                Found::Wrong => Four::Not(3, 6),
+                                Found::To(next) => Four::Are(i, j, k, w, next),
+                            }
+                        }
+                    }
+                }
+            }
+        }
+    }
+}
+
+// The line of trainee i in a table.
+fn cell_at(s: &[u8], at: usize, i: u16) -> One
+    requires { ⌜ at ≤ length (now s) ⌝ }
+    ensures { λ r. ⌜ OneRead cellNumbers (now (s .entry)) (cellFields i (drop at (now (s .entry)))) r ⌝ }
+{
+    let word = fields::keyword_at(s, at, b"A");
+    match word {
+        Found::Wrong => One::Not(3, 1),
+        Found::To(p) => {
+            let running = fields::running_at(s, p, i);
+            match running {
+                Found::Wrong => One::Not(3, 2),
+                Found::To(q) => {
+                    let depot = fields::number_at(s, q, 0, 64);
+                    match depot {
+                        Ranged::Not(e) => One::Not(e, 3),
+                        Ranged::Is(j, r) => {
+                            let end = fields::line_end_at(s, r);
+                            match end {
+                                Found::Wrong => One::Not(3, 4),
+                                Found::To(next) => One::Is(j, next),
+                            }
+                        }
+                    }
+                }
+            }
+        }
+    }
+}
+
+// The number of trainees and the number of strikes, in the fields 3 and 4 of the first line, and the line's end.
+fn sizes_at(s: &[u8], at: usize) -> Two
+    requires { ⌜ at ≤ length (now s) ⌝ }
+    ensures { λ r. ⌜ TwoRead headNumbers (now (s .entry)) (sizes (drop at (now (s .entry)))) r ⌝ }
+{
+    let trainees = fields::number_at(s, at, 0, 256);
+    match trainees {
+        Ranged::Not(e) => Two::Not(e, 3),
+        Ranged::Is(n, p) => {
+            let strikes = fields::number_at(s, p, 0, 4096);
+            match strikes {
+                Ranged::Not(e) => Two::Not(e, 4),
+                Ranged::Is(count, q) => {
+                    let end = fields::line_end_at(s, q);
+                    match end {
+                        Found::Wrong => Two::Not(3, 5),
+                        Found::To(next) => Two::Are(n, count, next),
+                    }
+                }
+            }
+        }
+    }
+}
+
+// The first line.
+fn head_at(s: &[u8], at: usize) -> Two
+    requires { ⌜ at ≤ length (now s) ⌝ }
+    ensures { λ r. ⌜ TwoRead headNumbers (now (s .entry)) (headFields (drop at (now (s .entry)))) r ⌝ }
+{
+    let word = fields::keyword_at(s, at, b"ruling");
+    match word {
+        Found::Wrong => Two::Not(3, 1),
+        Found::To(p) => {
+            let edition = fields::running_at(s, p, 1);
+            match edition {
+                Found::Wrong => Two::Not(3, 2),
+                Found::To(q) => sizes_at(s, q),
+            }
+        }
+    }
+}
 
 // Numbers, a field each, and the position after them.
 fn put_numbers(out: &mut [u8], at: usize, vs: &[u16]) -> usize
