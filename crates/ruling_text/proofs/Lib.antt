@@ -8,3 +8,4 @@ pub mod Written
 pub mod Quads
 pub mod Parts
 pub mod Ways
+pub mod Turns

@@ -1,9 +1,11 @@
 // The ruling text on plain cells: four cells to a strike (trainee, depot, the reason's number, witness), one cell of the table to a trainee.
 ghost use mathlib.Core.Path.{_≡_};
+ghost use mathlib.Core.List.{_∷_, []};
 ghost use Prim.Native.Nat.{_+_, _*_, _≤_};
 ghost use lib.ListN.{length, take, drop};
 ghost use lib.Seq.{sets};
 ghost use Rattle.fields.specs.Leaves.{Put};
+ghost use Rattle.fields.specs.Reader.{lines};
 ghost use Rattle.fields.specs.Writer.{writeLines};
 ghost use Rattle.ruling_text.specs.Legal.{LegalOutcome};
 ghost use Rattle.meaning.specs.Answers.{strikeNumbers};
@@ -154,6 +156,63 @@ fn cell_at(s: &[u8], at: usize, i: u16) -> One
             }
         }
     }
+}
+
+// Four cells from `at` on.
+fn store_four(t: &mut [u16], at: usize, a: u16, b: u16, c: u16, d: u16)
+    requires { ⌜ at + 4 ≤ length (now t) ⌝ }
+    ensures { λ r. ⌜ now (t .exit) ≡ sets (now (t .entry)) at (a ∷ b ∷ c ∷ d ∷ []) ⌝ }
+{
+    t[at] = a;
+    t[at + 1] = b;
+    t[at + 2] = c;
+    t[at + 3] = d;
+}
+
+// The lines of `count` strikes, into the front of `cells`; strike 1 stands on line 2.
+fn strikes_at(s: &[u8], at: usize, n: u16, count: usize, cells: &mut [u16]) -> Rows
+    requires { ⌜ (at ≤ length (now s)) × (count ≤ 4096) × (4 * count ≤ length (now cells)) ⌝ }
+    ensures { λ r. ⌜ RowsRead strikeNumbers (now (s .entry)) (lines (strikeLine n) weightless count 1 0 [] (drop at (now (s .entry)))) (now (cells .entry)) (now (cells .exit)) r ⌝ }
+{
+    let mut c: usize = 0;
+    let mut p = at;
+    while c < count {
+        let strike = strike_at(s, p, n);
+        match strike {
+            Four::Not(e, k) => {
+                return Rows::Refused(e, (c + 2) as u16, k);
+            }
+            Four::Are(i, j, k, w, next) => {
+                store_four(cells, 4 * c, i, j, k, w);
+                p = next;
+                c += 1;
+            }
+        }
+    }
+    Rows::To(p)
+}
+
+// The lines of n trainees after `count` strikes, into the front of `table`.
+fn table_at(s: &[u8], at: usize, n: usize, count: usize, table: &mut [u16]) -> Rows
+    requires { ⌜ (at ≤ length (now s)) × (n ≤ 256) × (count ≤ 4096) × (n ≤ length (now table)) ⌝ }
+    ensures { λ r. ⌜ RowsRead cellNumbers (now (s .entry)) (lines (cellLine count) weightless n 1 0 [] (drop at (now (s .entry)))) (now (table .entry)) (now (table .exit)) r ⌝ }
+{
+    let mut c: usize = 0;
+    let mut p = at;
+    while c < n {
+        let cell = cell_at(s, p, (c + 1) as u16);
+        match cell {
+            One::Not(e, k) => {
+                return Rows::Refused(e, (count + c + 2) as u16, k);
+            }
+            One::Is(j, next) => {
+                table[c] = j;
+                p = next;
+                c += 1;
+            }
+        }
+    }
+    Rows::To(p)
 }
 
 // The number of trainees and the number of strikes, in the fields 3 and 4 of the first line, and the line's end.
