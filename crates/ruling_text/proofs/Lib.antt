@@ -9,3 +9,5 @@ pub mod Quads
 pub mod Parts
 pub mod Ways
 pub mod Turns
+pub mod Conclusions
+pub mod Whole

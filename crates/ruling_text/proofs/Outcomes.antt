@@ -20,7 +20,7 @@ use Rattle.fields.proofs.Lines.{Line, lines-there, lines-back}
 use Rattle.ruling_text.specs.Words.{word-A, word-N}
 use Rattle.ruling_text.specs.Legal.{DEPOTS, LegalOutcome, legal-table, legal-held, legal-room}
 use Rattle.ruling_text.specs.Writer.{writeNumbers, writeLine, writeCell, writeNone, writeOutcome, writeEnd}
-use Rattle.ruling_text.specs.Reader.{Pair, pair, weightless, cellFields, cellLine, noneOf, noneFields, table, outcome, endFields, finish}
+use Rattle.ruling_text.specs.Reader.{Pair, pair, weightless, cellFields, cellLine, noneOf, noneFields, table, outcome, linesOf, endFields, finish, conclusion}
 use Rattle.ruling_text.proofs.Strikes.{weightless-sum, pair-there, pair-back}
 
 -- ---- a cell of the table
@@ -141,7 +141,7 @@ none-outcome n s k i j r hn l h hi hj =
     simp append-assoc
     (rw (word-there word-N rest N-word t, same-refl word-N, outcome) (rw (rest-there word-N rest N-word t, none-there n k i j r hn l h hi hj)))
 
-pub outcome-there : (n s : ℕ) (o : Outcome) → n ≤ 256 → LegalOutcome n o → outcome n s (writeOutcome o ++ writeEnd) ≡ got o writeEnd
+outcome-there : (n s : ℕ) (o : Outcome) → n ≤ 256 → LegalOutcome n o → outcome n s (writeOutcome o ++ writeEnd) ≡ got o writeEnd
 unfolding outcome table writeOutcome noneOf
 outcome-there n s _ hn (legal-table {l = l} e g) =
     rw (table-word l, outcome, sym e)
@@ -170,7 +170,7 @@ outcome-back n s t {o} {r} h = go (true-or-false (same (wordOf t) word-N))
 
 -- ---- the end
 
-pub finish-there : (l : ℕ) → finish l writeEnd ≡ got tt []
+finish-there : (l : ℕ) → finish l writeEnd ≡ got tt []
 unfolding finish endFields keyword first unless lineEnd atEnd wordOf restOf stop? same _&_
 finish-there l = refl
 
@@ -180,7 +180,7 @@ end-fields s h =
     let a = went (keyword word-end s) _ h in
     keyword-back word-end s (a .here) ∙ ap (λ x. word-end ++ x) (end-back 2 (a .rest) (a .on))
 
-pub finish-back : (l : ℕ) (s : List ℕ) {t : Unit {0}} {r : List ℕ} → finish l s ≡ got t r → s ≡ writeEnd
+finish-back : (l : ℕ) (s : List ℕ) {t : Unit {0}} {r : List ℕ} → finish l s ≡ got t r → s ≡ writeEnd
 unfolding finish atEnd
 finish-back l s {t} {r} h =
     let a = went (line l endFields s) _ h in
@@ -189,3 +189,21 @@ finish-back l s {t} {r} h =
     go : (q : List ℕ) → s ≡ writeEnd ++ q → atEnd (l + 1) q ≡ got t r → s ≡ writeEnd
     go [] e g = e ∙ append-nil writeEnd
     go (x ∷ q) e g = absurd (refusal-not-got g)
+
+-- ---- all that follows the strikes
+
+pub conclusion-there : (n s : ℕ) (o : Outcome) → n ≤ 256 → LegalOutcome n o → conclusion n s (writeOutcome o ++ writeEnd) ≡ got o []
+unfolding conclusion
+conclusion-there n s o hn g = rw (outcome-there n s o hn g, finish-there (s + linesOf o + 2))
+
+pub conclusion-back : (n s : ℕ) (t : List ℕ) {o : Outcome} {r : List ℕ} → conclusion n s t ≡ got o r → OutcomeRead n t writeEnd o
+unfolding conclusion
+conclusion-back n s t {o} {r} h =
+    let a = went (outcome n s t) _ h in
+    let b = went (finish (s + linesOf (a .value) + 2) (a .rest)) _ (a .on) in
+    let y = outcome-back n s t (a .here) in
+    subst (OutcomeRead n t writeEnd) (got-value (b .on))
+    (record {
+      legal = y .legal;
+      text = y .text ∙ ap (λ w. writeOutcome (a .value) ++ w) (finish-back (s + linesOf (a .value) + 2) (a .rest) (b .here));
+    })

@@ -1,6 +1,6 @@
 -- The ruling text there and back: the reader takes exactly the writer's texts of the legal rulings.
 -- Assumes nothing.
-use Prim.Native.Nat.{ℕ, _+_, _≤_}
+use Prim.Native.Nat.{ℕ, _≤_}
 use mathlib.Core.Path.{_≡_, refl, sym, ap, _∙_, subst}
 use mathlib.Core.Logic.{_⊎_, inl, inr}
 use mathlib.Core.Bool.{true, false}
@@ -21,9 +21,9 @@ use Rattle.fields.proofs.Lines.{lines-there, lines-back}
 use Rattle.ruling_text.specs.Words.{word-ruling}
 use Rattle.ruling_text.specs.Legal.{STRIKES, LegalStrike, LegalRuling}
 use Rattle.ruling_text.specs.Writer.{writeNumbers, writeLine, writeStrike, writeOutcome, writeHead, writeEnd, rulingText}
-use Rattle.ruling_text.specs.Reader.{strikeLine, weightless, outcome, linesOf, finish, Head, sizes, headFields, body, ruling, taken, answer, readRuling}
+use Rattle.ruling_text.specs.Reader.{strikeLine, weightless, conclusion, Head, sizes, headFields, body, ruling, taken, answer, readRuling}
 use Rattle.ruling_text.proofs.Strikes.{weightless-sum, strike-there, strike-back}
-use Rattle.ruling_text.proofs.Outcomes.{outcome-there, outcome-back, finish-there, finish-back}
+use Rattle.ruling_text.proofs.Outcomes.{conclusion-there, conclusion-back}
 use Rattle.ruling_text.proofs.Short.{ruling-short}
 
 -- ---- the first line
@@ -46,12 +46,13 @@ head-there n s r hn hs =
       end-there 5 r,
     ))
 
-record HeadRead (s r : List ℕ) (h : Head) : Type 0 where
-  n : h .n ≤ 256
-  few : h .s ≤ STRIKES
-  text : s ≡ writeHead (h .n) (h .s) ++ r
+-- what the first line says that was read
+pub record HeadRead (s r : List ℕ) (h : Head) : Type 0 where
+  pub n : h .n ≤ 256
+  pub few : h .s ≤ STRIKES
+  pub text : s ≡ writeHead (h .n) (h .s) ++ r
 
-head-back : (s : List ℕ) {h : Head} {r : List ℕ} → headFields s ≡ got h r → HeadRead s r h
+pub head-back : (s : List ℕ) {h : Head} {r : List ℕ} → headFields s ≡ got h r → HeadRead s r h
 unfolding headFields sizes writeHead writeLine writeNumbers
 head-back s {h} {r} e =
     let a = went (keyword word-ruling s) _ e in
@@ -91,8 +92,7 @@ whole-there r g =
       head-there n s r₂ (g .n) few,
       lines-there (strikeLine n) weightless writeStrike (LegalStrike n) 0 4096 (strike-there n (g .n)) 1 0 (r .strikes) [] r₁ (omega arith) (g .strikes)
           (omega (arith, weightless-sum (r .strikes))),
-      outcome-there n s (r .outcome) (g .n) (g .outcome),
-      finish-there (s + linesOf (r .outcome) + 2),
+      conclusion-there n s (r .outcome) (g .n) (g .outcome),
     ))
 
 record RulingRead (s : List ℕ) (r : WholeRuling) : Type 0 where
@@ -107,12 +107,10 @@ whole-back s {r} {rest} e =
     let hd = head-back s (on-line 1 (headFields s) (a .here)) in
     let b = went (lines (strikeLine (h .n)) weightless (h .s) 1 0 [] (a .rest)) _ (a .on) in
     let x = lines-back (strikeLine (h .n)) weightless writeStrike (LegalStrike (h .n)) 0 (strike-back (h .n)) (h .s) 1 0 [] (a .rest) (b .value) (b .rest) (b .here) in
-    let c = went (outcome (h .n) (h .s) (b .rest)) _ (b .on) in
-    let y = outcome-back (h .n) (h .s) (b .rest) (c .here) in
-    let d = went (finish (h .s + linesOf (c .value) + 2) (c .rest)) _ (c .on) in
-    let z = finish-back (h .s + linesOf (c .value) + 2) (c .rest) (d .here) in
+    let c = went (conclusion (h .n) (h .s) (b .rest)) _ (b .on) in
+    let y = conclusion-back (h .n) (h .s) (b .rest) (c .here) in
     let R : WholeRuling = record { trainees = h .n; strikes = x .xs; outcome = c .value } in
-    let same-r : R ≡ r = (λ i. record { trainees = h .n; strikes = sym (x .all) i; outcome = c .value }) ∙ got-value (d .on) in
+    let same-r : R ≡ r = (λ i. record { trainees = h .n; strikes = sym (x .all) i; outcome = c .value }) ∙ got-value (c .on) in
     subst (RulingRead s) same-r
     (record {
       legal = record { n = hd .n; strikes = x .legal; few-strikes = rw (x .count) (hd .few); outcome = y .legal };
@@ -121,7 +119,7 @@ whole-back s {r} {rest} e =
           (hd .text
           ∙ ap (λ k. writeHead (h .n) k ++ a .rest) (sym (x .count))
           ∙ ap (λ w. writeHead (h .n) (length (x .xs)) ++ w)
-          (x .text ∙ ap (λ w. writeLines writeStrike 1 (x .xs) ++ w) (y .text ∙ ap (λ w. writeOutcome (c .value) ++ w) z))
+          (x .text ∙ ap (λ w. writeLines writeStrike 1 (x .xs) ++ w) (y .text))
           ∙ sym (simp append-assoc));
     })
 

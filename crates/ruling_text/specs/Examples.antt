@@ -20,7 +20,7 @@ use Rattle.fields.specs.Writer.{writeNumber, writeLines}
 use Rattle.fields.specs.Shown.{shown}
 use Rattle.ruling_text.specs.Legal.{every?, in?, legalReason?, legalStrike?, legalOutcome?, legalRuling?}
 use Rattle.ruling_text.specs.Writer.{writeNumbers, writeLine, writeStrike, writeCell, writeNone, writeOutcome, writeHead, rulingText}
-use Rattle.ruling_text.specs.Reader.{pair, lowWitness, highWitness, reasonOf, reason, strikeFields, strikeLine, weightless, cellFields, cellLine, noneOf, noneFields, table, outcome, linesOf, endFields, finish, sizes, headFields, body, ruling, Read, taken, refused, answer, readRuling}
+use Rattle.ruling_text.specs.Reader.{pair, lowWitness, highWitness, reasonOf, reason, strikeFields, strikeLine, weightless, cellFields, cellLine, noneOf, noneFields, table, outcome, linesOf, endFields, finish, conclusion, sizes, headFields, body, ruling, Read, taken, refused, answer, readRuling}
 
 rulingOf : ℕ → List Strike → Outcome → WholeRuling
 rulingOf n xs o = record { trainees = n; strikes = xs; outcome = o }
@@ -29,7 +29,7 @@ strike : ℕ → ℕ → Reason → Strike
 strike i j r = record { trainee = i; depot = j; reason = r }
 
 read : List ℕ → Read
-unfolding _&_ stop? wordOf restOf same digit? value leads numberOf unless first field lineEnd keyword atEnd formed figure number running lines pair lowWitness highWitness reasonOf reason strikeFields strikeLine weightless cellFields cellLine noneOf noneFields table outcome linesOf endFields finish sizes headFields body ruling answer readRuling
+unfolding _&_ stop? wordOf restOf same digit? value leads numberOf unless first field lineEnd keyword atEnd formed figure number running lines pair lowWitness highWitness reasonOf reason strikeFields strikeLine weightless cellFields cellLine noneOf noneFields table outcome linesOf endFields finish conclusion sizes headFields body ruling answer readRuling
 read s = readRuling s
 
 write : WholeRuling → List ℕ

@@ -118,6 +118,13 @@ endFields = keyword word-end >> lineEnd 2
 unfoldable pub finish : ℕ → Reader (Unit {0})
 finish l = line l endFields >> atEnd (l + 1)
 
+-- all that follows s strikes
+unfoldable pub conclusion : ℕ → ℕ → Reader Outcome
+conclusion n s = do
+  o ← outcome n s
+  finish (s + linesOf o + 2)
+  pure o
+
 -- the number of trainees and the number of strikes
 pub record Head : Type 0 where
   pub n : ℕ
@@ -139,8 +146,7 @@ headFields = do
 unfoldable pub body : Head → Reader WholeRuling
 body h = do
   xs ← lines (strikeLine (h .n)) weightless (h .s) 1 0 []
-  o ← outcome (h .n) (h .s)
-  finish (h .s + linesOf o + 2)
+  o ← conclusion (h .n) (h .s)
   pure (record { trainees = h .n; strikes = xs; outcome = o })
 
 unfoldable pub ruling : Reader WholeRuling

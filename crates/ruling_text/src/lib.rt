@@ -9,13 +9,15 @@ ghost use Rattle.fields.specs.Reader.{lines};
 ghost use Rattle.fields.specs.Writer.{writeLines};
 ghost use Rattle.ruling_text.specs.Legal.{LegalOutcome};
 ghost use Rattle.meaning.specs.Answers.{strikeNumbers};
-ghost use Rattle.ruling_text.specs.Reader.{pair, lowWitness, highWitness, reason, strikeFields, strikeLine, cellFields, cellLine, weightless, sizes, headFields};
-ghost use Rattle.ruling_text.specs.Code.{pairNumbers, reasonNumbers, cellNumbers, headNumbers, OneRead, TwoRead, FourRead, RowsRead};
+ghost use Rattle.meaning.specs.Solver.{endingOf};
+ghost use Rattle.ruling_text.specs.Reader.{pair, lowWitness, highWitness, reason, strikeFields, strikeLine, cellFields, cellLine, weightless, noneOf, noneFields, outcome, finish, conclusion, body, sizes, headFields};
+ghost use Rattle.ruling_text.specs.Code.{pairNumbers, reasonNumbers, cellNumbers, headNumbers, OneRead, TwoRead, FourRead, RowsRead, NoneRead, ConclusionRead, endingLines, LastRead, EndRead, BodyRead, TextRead};
 ghost use Rattle.ruling_text.specs.Writer.{writeNumbers, writeLine, writeStrike, writeCell, writeOutcome, rulingText};
 ghost use Rattle.ruling_text.specs.Cells.{strikeCells, strikesIn, outcomeIn, rulingIn, Held};
 use fields::Found;
 use fields::Ranged;
 use meaning::Ending;
+use meaning::Ruling;
 
 // A number and where it stopped; or the refusal's number and field.
 pub enum One {
@@ -38,6 +40,36 @@ pub enum Four {
 // Where lines stopped; or the refusal's number, line and field.
 pub enum Rows {
     To(usize),
+    Refused(u16, u16, u16),
+}
+
+// An ending without a table, and where its line stopped; or the refusal's number and field.
+pub enum None {
+    Is(Ending, usize),
+    Not(u16, u16),
+}
+
+// How the text ends and where that stopped; or the refusal's number, line and field.
+pub enum Conclusion {
+    To(Ending, usize),
+    Refused(u16, u16, u16),
+}
+
+// The end line with nothing after it; or the line and the field that are of wrong form.
+pub enum Last {
+    Here,
+    Wrong(u16, u16),
+}
+
+// How the text ends; or the refusal's number, line and field.
+pub enum End {
+    Is(Ending),
+    Refused(u16, u16, u16),
+}
+
+// What reading a ruling text answers: the ruling beside its cells; or the refusal's number, line and field.
+pub enum RulingRead {
+    Taken(Ruling),
     Refused(u16, u16, u16),
 }
 
@@ -215,6 +247,147 @@ fn table_at(s: &[u8], at: usize, n: usize, count: usize, table: &mut [u16]) -> R
     Rows::To(p)
 }
 
+// The ending of kind k, 1 or 2.
+fn none_of(k: u16, i: u16, j: u16) -> Ending
+    ensures { λ r. ⌜ endingOf (noneOf k (record { trainee = i; depot = j })) ≡ r ⌝ }
+{
+    if k == 1 {
+        Ending::NoneHeld(i, j)
+    } else {
+        Ending::NoneRoom(i, j)
+    }
+}
+
+// Kind, trainee and depot of the line that says why there is no table, after its word.
+fn none_at(s: &[u8], at: usize, n: u16) -> None
+    requires { ⌜ at ≤ length (now s) ⌝ }
+    ensures { λ r. ⌜ NoneRead (now (s .entry)) (noneFields n (drop at (now (s .entry)))) r ⌝ }
+{
+    let kind = fields::number_at(s, at, 1, 2);
+    match kind {
+        Ranged::Not(e) => None::Not(e, 2),
+        Ranged::Is(k, p) => {
+            let pair = pair_at(s, p, 3, n);
+            match pair {
+                Two::Not(e, f) => None::Not(e, f),
+                Two::Are(i, j, q) => {
+                    let end = fields::line_end_at(s, q);
+                    match end {
+                        Found::Wrong => None::Not(3, 5),
+                        Found::To(next) => None::Is(none_of(k, i, j), next),
+                    }
+                }
+            }
+        }
+    }
+}
+
+// The table, or why there is none, after `count` strikes.
+fn outcome_at(s: &[u8], at: usize, n: u16, count: usize, table: &mut [u16]) -> Conclusion
+    requires { ⌜ (at ≤ length (now s)) × (n ≤ 256) × (count ≤ 4096) × (n ≤ length (now table)) ⌝ }
+    ensures { λ r. ⌜ ConclusionRead (now (s .entry)) (outcome n count (drop at (now (s .entry)))) (now (table .entry)) (now (table .exit)) r ⌝ }
+{
+    let word = fields::keyword_at(s, at, b"N");
+    match word {
+        Found::To(p) => {
+            let none = none_at(s, p, n);
+            match none {
+                None::Not(e, k) => Conclusion::Refused(e, (count + 2) as u16, k),
+                None::Is(ending, next) => Conclusion::To(ending, next),
+            }
+        }
+        Found::Wrong => {
+            let rows = table_at(s, at, n as usize, count, table);
+            match rows {
+                Rows::Refused(e, l, k) => Conclusion::Refused(e, l, k),
+                Rows::To(next) => Conclusion::To(Ending::Placed, next),
+            }
+        }
+    }
+}
+
+// How many lines an outcome of n trainees with this ending has.
+fn lines_of(n: u16, ending: Ending) -> u16
+    ensures { λ r. ⌜ r ≡ endingLines n ending ⌝ }
+{
+    match ending {
+        Ending::Placed => n,
+        Ending::NoneHeld(_, _) => 1,
+        Ending::NoneRoom(_, _) => 1,
+    }
+}
+
+// The end line, l, and then nothing.
+fn finish_at(s: &[u8], at: usize, l: u16) -> Last
+    requires { ⌜ (at ≤ length (now s)) × (l ≤ 5000) ⌝ }
+    ensures { λ r. ⌜ LastRead (finish l (drop at (now (s .entry)))) r ⌝ }
+{
+    let word = fields::keyword_at(s, at, b"end");
+    match word {
+        Found::Wrong => Last::Wrong(l, 1),
+        Found::To(p) => {
+            let end = fields::line_end_at(s, p);
+            match end {
+                Found::Wrong => Last::Wrong(l, 2),
+                Found::To(q) => {
+                    if q < s.len() {
+                        return Last::Wrong(l + 1, 1);
+                    }
+                    Last::Here
+                }
+            }
+        }
+    }
+}
+
+// All that follows `count` strikes.
+fn end_at(s: &[u8], at: usize, n: u16, count: u16, table: &mut [u16]) -> End
+    requires { ⌜ (at ≤ length (now s)) × (n ≤ 256) × (count ≤ 4096) × (n ≤ length (now table)) ⌝ }
+    ensures { λ r. ⌜ EndRead (conclusion n count (drop at (now (s .entry)))) (now (table .entry)) (now (table .exit)) r ⌝ }
+{
+    let outcome = outcome_at(s, at, n, count as usize, table);
+    match outcome {
+        Conclusion::Refused(e, l, k) => End::Refused(e, l, k),
+        Conclusion::To(ending, p) => {
+            let l = count + lines_of(n, ending) + 2;
+            let last = finish_at(s, p, l);
+            match last {
+                Last::Wrong(l, k) => End::Refused(3, l, k),
+                Last::Here => End::Is(ending),
+            }
+        }
+    }
+}
+
+// All that follows the first line.
+fn body_at(
+    s: &[u8],
+    at: usize,
+    n: u16,
+    count: u16,
+    table: &mut [u16],
+    cells: &mut [u16],
+) -> RulingRead
+    requires { ⌜ (at ≤ length (now s)) × (n ≤ 256) × (count ≤ 4096) × (n ≤ length (now table)) × (4 * count ≤ length (now cells)) ⌝ }
+    ensures { λ r. ⌜ BodyRead (body (record { n = n; s = count }) (drop at (now (s .entry)))) (now (table .entry)) (now (table .exit)) (now (cells .entry)) (now (cells .exit)) r ⌝ }
+{
+    let strikes = strikes_at(s, at, n, count as usize, cells);
+    match strikes {
+        Rows::Refused(e, l, k) => RulingRead::Refused(e, l, k),
+        Rows::To(p) => {
+            let end = end_at(s, p, n, count, table);
+            match end {
+                End::Refused(e, l, k) => RulingRead::Refused(e, l, k),
+                End::Is(ending) => RulingRead::Taken(Ruling {
+                    trainees: n,
+                    strikes: count,
+                    ending,
+                }),
+            }
+        }
+    }
+}
+
 // The number of trainees and the number of strikes, in the fields 3 and 4 of the first line, and the line's end.
 fn sizes_at(s: &[u8], at: usize) -> Two
     requires { ⌜ at ≤ length (now s) ⌝ }
@@ -254,6 +427,21 @@ fn head_at(s: &[u8], at: usize) -> Two
                 Found::To(q) => sizes_at(s, q),
             }
         }
+    }
+}
+
+// A ruling text, into the fronts of `table` and `cells`; after a refusal these hold anything.
+pub fn get_ruling(s: &[u8], table: &mut [u16], cells: &mut [u16]) -> RulingRead
+    requires { ⌜ (256 ≤ length (now table)) × (16384 ≤ length (now cells)) ⌝ }
+    ensures { λ r. ⌜ TextRead (now (s .entry)) (now (table .entry)) (now (table .exit)) (now (cells .entry)) (now (cells .exit)) r ⌝ }
+{
+    if 65536 < s.len() {
+        return RulingRead::Refused(2, 0, 0);
+    }
+    let head = head_at(s, 0);
+    match head {
+        Two::Not(e, k) => RulingRead::Refused(e, 1, k),
+        Two::Are(n, count, p) => body_at(s, p, n, count, table, cells),
     }
 }
 
