@@ -1,50 +1,38 @@
+-- The word and the line's end, and then whether anything is left.
 use mathlib.Core.Path.{subst}
+use borrow.Author.Needs.{needs}
 use Rattle.fields.specs.Bytes.{word-end}
 use Rattle.fields.specs.Leaves.{KeywordRead, FoundRead}
 use Rattle.ruling_text.proofs.Conclusions.{finish-no-word, finish-no-end, finish-extra, finish-here}
-use borrow.Author.Needs.{needs}
 use Rattle.ruling_text.proofs.finish_at.Statement.{statement}
 use Rattle.ruling_text.proofs.finish_at.Tie as tie
-use Rattle.ruling_text.proofs.finish_at.Reads as reads
-use Rattle.ruling_text.proofs.finish_at.Lts as lts
-use Rattle.fields.proofs.keyword_at.Reads as keyword-at-reads
-use Rattle.fields.proofs.line_end_at.Reads as line-end-at-reads
 
--- src/lib.rt:319:42
 slice-aggregate-keyword-at : tie.Need-slice-aggregate-keyword-at
 slice-aggregate-keyword-at c = search needs
 
--- src/lib.rt:319:9
 keyword-at-requires : tie.Need-keyword-at-requires
 keyword-at-requires c κs = search needs
 
--- src/lib.rt:321:25
 enum-told : tie.Need-enum-told
 enum-told c = search needs
 
--- src/lib.rt:322:19
 enum-known-word : tie.Need-enum-known-word
 enum-known-word c = search needs
 
--- src/lib.rt:323:17
 line-end-at-requires : tie.Need-line-end-at-requires
 line-end-at-requires c κs =
     let a = c .before .before .before .before .before .before .args in
     subst (KeywordRead (a .s .now) (a .at) word-end) (c .before .word .given .1) (c .before .before .before .keyword-at .ensures) .within
 
--- src/lib.rt:325:33
 enum-told-2 : tie.Need-enum-told-2
 enum-told-2 c = search needs
 
--- src/lib.rt:326:27
 enum-known-end : tie.Need-enum-known-end
 enum-known-end c = search needs
 
--- src/lib.rt:328:44
 add-t15 : tie.Need-add-t15
 add-t15 c = search needs
 
--- src/lib.rt:328:25
 returns : tie.Need-returns
 returns c =
     let a = c .before .before .before .before .before .before .before .before .before .before .before .args in
@@ -52,20 +40,17 @@ returns c =
     let e = subst (FoundRead (a .s .now) _) (c .before .before .end .given .1) (c .before .before .before .before .line-end-at .ensures) in
     finish-extra (a .l) _ (w .goes 1) (a .s .now) (e .goes 2) (c .if1 .taken)
 
--- src/lib.rt:315:1
 returns-2 : tie.Need-returns-2
 returns-2 c =
     let a = c .before .before .before .before .before .args in
     finish-no-word (a .l) _ (subst (KeywordRead (a .s .now) (a .at) word-end) (c .enum-told .given .1) (c .before .before .keyword-at .ensures))
 
--- src/lib.rt:315:1
 returns-3 : tie.Need-returns-3
 returns-3 c =
     let a = c .before .before .before .before .before .before .before .before .before .args in
     let w = subst (KeywordRead (a .s .now) (a .at) word-end) (c .before .before .before .before .word .given .1) (c .before .before .before .before .before .before .keyword-at .ensures) in
     finish-no-end (a .l) _ (w .goes 1) (subst (FoundRead (a .s .now) _) (c .enum-told2 .given .1) (c .before .before .line-end-at .ensures) 2)
 
--- src/lib.rt:315:1
 returns-4 : tie.Need-returns-4
 returns-4 c =
     let a = c .before .before .before .before .before .before .before .before .before .before .before .args in

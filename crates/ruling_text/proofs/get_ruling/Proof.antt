@@ -1,32 +1,24 @@
+-- The first line bounds both numbers, so that the tables are long enough.
 use mathlib.Core.Path.{subst}
 use native.Mathlib.Omega.{arith}
+use borrow.Author.Needs.{needs}
 use Rattle.ruling_text.specs.Code.{TwoRead, headNumbers}
 use Rattle.ruling_text.proofs.Whole.{text-long, text-no-head, head-n, head-few, text-read}
-use borrow.Author.Needs.{needs}
 use Rattle.ruling_text.proofs.get_ruling.Statement.{statement}
 use Rattle.ruling_text.proofs.get_ruling.Tie as tie
-use Rattle.ruling_text.proofs.get_ruling.Reads as reads
-use Rattle.ruling_text.proofs.get_ruling.Lts as lts
-use Rattle.ruling_text.proofs.body_at.Reads as body-at-reads
-use Rattle.ruling_text.proofs.head_at.Reads as head-at-reads
 
--- src/lib.rt:432:9
 returns : tie.Need-returns
 returns c = text-long (c .before .before .before .before .args .s .now) (c .if1 .taken)
 
--- src/lib.rt:434:9
 head-at-requires : tie.Need-head-at-requires
 head-at-requires c κs = search needs
 
--- src/lib.rt:436:18
 enum-known-head : tie.Need-enum-known-head
 enum-known-head c = search needs
 
--- src/lib.rt:437:18
 enum-known-head-2 : tie.Need-enum-known-head-2
 enum-known-head-2 c = search needs
 
--- src/lib.rt:437:34
 body-at-requires : tie.Need-body-at-requires
 body-at-requires c κs =
     let a = c .before .before .before .before .before .before .before .before .before .before .args in
@@ -35,21 +27,17 @@ body-at-requires c κs =
     let k = head-few (a .s .now) (c .before .before .before .before .before .before .if1 .left) h in
     (h .within, n, k, omega arith, omega arith)
 
--- src/lib.rt:427:1
 returns-2 : tie.Need-returns-2
 returns-2 c =
     let a = c .before .before .before .before .before .before .before .before .args in
     text-no-head (a .s .now) (c .before .before .before .before .if1 .left) (subst (TwoRead headNumbers (a .s .now) _) (c .before .head .given .1) (c .before .before .before .head-at .ensures))
 
--- src/lib.rt:427:1
 same-length : tie.Need-same-length
 same-length c = search needs
 
--- src/lib.rt:427:1
 same-length-2 : tie.Need-same-length-2
 same-length-2 c = search needs
 
--- src/lib.rt:427:1
 returns-3 : tie.Need-returns-3
 returns-3 c =
     let a = c .before .before .before .before .before .before .before .before .before .before .before .before .before .before .before .args in

@@ -1,75 +1,57 @@
+-- The kind, the pair and the line's end, each from where the one before stopped.
 use mathlib.Core.Path.{subst}
+use borrow.Author.Needs.{needs}
 use Rattle.fields.specs.Leaves.{NumberRead, FoundRead}
 use Rattle.ruling_text.specs.Code.{TwoRead, pairNumbers}
 use Rattle.ruling_text.proofs.Conclusions.{none-no-kind, none-no-pair, none-no-end, none-is}
-use borrow.Author.Needs.{needs}
 use Rattle.ruling_text.proofs.none_at.Statement.{statement}
 use Rattle.ruling_text.proofs.none_at.Tie as tie
-use Rattle.ruling_text.proofs.none_at.Reads as reads
-use Rattle.ruling_text.proofs.none_at.Lts as lts
-use Rattle.fields.proofs.line_end_at.Reads as line-end-at-reads
-use Rattle.fields.proofs.number_at.Reads as number-at-reads
-use Rattle.ruling_text.proofs.none_of.Reads as none-of-reads
-use Rattle.ruling_text.proofs.pair_at.Reads as pair-at-reads
 
--- src/lib.rt:260:9
 number-at-requires : tie.Need-number-at-requires
 number-at-requires c κs = search needs
 
--- src/lib.rt:262:21
 enum-known-kind : tie.Need-enum-known-kind
 enum-known-kind c = search needs
 
--- src/lib.rt:263:20
 enum-known-kind-2 : tie.Need-enum-known-kind-2
 enum-known-kind-2 c = search needs
 
--- src/lib.rt:264:17
 pair-at-requires : tie.Need-pair-at-requires
 pair-at-requires c κs =
     let a = c .before .before .before .before .before .args in
     (subst (NumberRead (a .s .now) (a .at) 1 2) (c .before .kind2 .given .1) (c .before .before .before .number-at .ensures) .within, search needs)
 
--- src/lib.rt:266:26
 enum-known-pair : tie.Need-enum-known-pair
 enum-known-pair c = search needs
 
--- src/lib.rt:267:26
 enum-known-pair-2 : tie.Need-enum-known-pair-2
 enum-known-pair-2 c = search needs
 
--- src/lib.rt:268:25
 line-end-at-requires : tie.Need-line-end-at-requires
 line-end-at-requires c κs =
     let a = c .before .before .before .before .before .before .before .before .before .args in
     subst (TwoRead pairNumbers (a .s .now) _) (c .before .pair2 .given .1) (c .before .before .before .pair-at .ensures) .within
 
--- src/lib.rt:270:41
 enum-told : tie.Need-enum-told
 enum-told c = search needs
 
--- src/lib.rt:271:35
 enum-known-end : tie.Need-enum-known-end
 enum-known-end c = search needs
 
--- src/lib.rt:271:53
 none-of-requires : tie.Need-none-of-requires
 none-of-requires c κs = search needs
 
--- src/lib.rt:256:1
 returns : tie.Need-returns
 returns c =
     let a = c .before .before .before .before .before .args in
     none-no-kind (a .n) _ (subst (NumberRead (a .s .now) (a .at) 1 2) (c .before .kind .given .1) (c .before .before .before .number-at .ensures) 2)
 
--- src/lib.rt:256:1
 returns-2 : tie.Need-returns-2
 returns-2 c =
     let a = c .before .before .before .before .before .before .before .before .before .args in
     let k = subst (NumberRead (a .s .now) (a .at) 1 2) (c .before .before .before .before .before .kind2 .given .1) (c .before .before .before .before .before .before .before .number-at .ensures) in
     none-no-pair (a .n) _ (k .goes 2) (subst (TwoRead pairNumbers (a .s .now) _) (c .before .pair .given .1) (c .before .before .before .pair-at .ensures))
 
--- src/lib.rt:256:1
 returns-3 : tie.Need-returns-3
 returns-3 c =
     let a = c .before .before .before .before .before .before .before .before .before .before .before .before .args in
@@ -77,7 +59,6 @@ returns-3 c =
     let p = subst (TwoRead pairNumbers (a .s .now) _) (c .before .before .before .before .pair2 .given .1) (c .before .before .before .before .before .before .pair-at .ensures) in
     none-no-end (a .n) _ (k .goes 2) (p .goes) (subst (FoundRead (a .s .now) _) (c .enum-told .given .1) (c .before .before .line-end-at .ensures) 5)
 
--- src/lib.rt:256:1
 returns-4 : tie.Need-returns-4
 returns-4 c =
     let a = c .before .before .before .before .before .before .before .before .before .before .before .before .before .before .args in

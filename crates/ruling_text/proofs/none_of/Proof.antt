@@ -1,14 +1,11 @@
+-- By cases on the kind.
 use Rattle.ruling_text.proofs.Conclusions.{kind-held, kind-room}
 use Rattle.ruling_text.proofs.none_of.Statement.{statement}
 use Rattle.ruling_text.proofs.none_of.Tie as tie
-use Rattle.ruling_text.proofs.none_of.Reads as reads
-use Rattle.ruling_text.proofs.none_of.Lts as lts
 
--- src/lib.rt:245:1
 returns : tie.Need-returns
 returns c = kind-held (c .before .args .i) (c .before .args .j) (c .if1 .taken)
 
--- src/lib.rt:245:1
 returns-2 : tie.Need-returns-2
 returns-2 c = kind-room (c .before .args .k) (c .before .args .i) (c .before .args .j) (c .if1 .left)
 

@@ -1,97 +1,75 @@
+-- The first word says whether a table follows.
 use mathlib.Core.Path.{subst}
+use borrow.Author.Needs.{needs}
 use Rattle.fields.specs.Leaves.{KeywordRead}
 use Rattle.ruling_text.specs.Words.{word-N}
 use Rattle.ruling_text.specs.Code.{NoneRead, RowsRead, cellNumbers}
 use Rattle.ruling_text.proofs.Conclusions.{outcome-no-none, outcome-none, outcome-no-table, outcome-table}
-use borrow.Author.Needs.{needs}
 use Rattle.ruling_text.proofs.outcome_at.Statement.{statement}
 use Rattle.ruling_text.proofs.outcome_at.Tie as tie
-use Rattle.ruling_text.proofs.outcome_at.Reads as reads
-use Rattle.ruling_text.proofs.outcome_at.Lts as lts
-use Rattle.fields.proofs.keyword_at.Reads as keyword-at-reads
-use Rattle.ruling_text.proofs.none_at.Reads as none-at-reads
-use Rattle.ruling_text.proofs.table_at.Reads as table-at-reads
 
--- src/lib.rt:284:42
 slice-aggregate-keyword-at : tie.Need-slice-aggregate-keyword-at
 slice-aggregate-keyword-at c = search needs
 
--- src/lib.rt:284:9
 keyword-at-requires : tie.Need-keyword-at-requires
 keyword-at-requires c κs = search needs
 
--- src/lib.rt:286:19
 enum-known-word : tie.Need-enum-known-word
 enum-known-word c = search needs
 
--- src/lib.rt:287:17
 none-at-requires : tie.Need-none-at-requires
 none-at-requires c κs =
     let a = c .before .before .before .before .before .before .before .args in
     subst (KeywordRead (a .s .now) (a .at) word-N) (c .before .word .given .1) (c .before .before .before .keyword-at .ensures) .within
 
--- src/lib.rt:289:27
 enum-known-none : tie.Need-enum-known-none
 enum-known-none c = search needs
 
--- src/lib.rt:289:60
 add-t23 : tie.Need-add-t23
 add-t23 c = search needs
 
--- src/lib.rt:289:59
 cast-t24 : tie.Need-cast-t24
 cast-t24 c = search needs
 
--- src/lib.rt:290:26
 enum-known-none-2 : tie.Need-enum-known-none-2
 enum-known-none-2 c = search needs
 
--- src/lib.rt:294:40
 enum-told : tie.Need-enum-told
 enum-told c = search needs
 
--- src/lib.rt:294:17
 table-at-requires : tie.Need-table-at-requires
 table-at-requires c κs = search needs
 
--- src/lib.rt:296:31
 enum-known-rows : tie.Need-enum-known-rows
 enum-known-rows c = search needs
 
--- src/lib.rt:297:26
 enum-known-rows-2 : tie.Need-enum-known-rows-2
 enum-known-rows-2 c = search needs
 
--- src/lib.rt:280:1
 returns : tie.Need-returns
 returns c =
     let a = c .before .before .before .before .before .before .before .before .before .before .before .args in
     let w = subst (KeywordRead (a .s .now) (a .at) word-N) (c .before .before .before .before .before .word .given .1) (c .before .before .before .before .before .before .before .keyword-at .ensures) in
     outcome-no-none (a .s .now) (a .n) (a .count) (a .at) (w .goes 1) (subst (NoneRead (a .s .now) _) (c .before .none .given .1) (c .before .before .before .none-at .ensures))
 
--- src/lib.rt:280:1
 returns-2 : tie.Need-returns-2
 returns-2 c =
     let a = c .before .before .before .before .before .before .before .before .before .before .before .args in
     let w = subst (KeywordRead (a .s .now) (a .at) word-N) (c .before .before .before .before .before .word .given .1) (c .before .before .before .before .before .before .before .keyword-at .ensures) in
     outcome-none (a .s .now) (a .n) (a .count) (a .at) (w .goes 1) (subst (NoneRead (a .s .now) _) (c .before .none2 .given .1) (c .before .before .before .none-at .ensures) (a .table .now))
 
--- src/lib.rt:280:1
 same-length : tie.Need-same-length
 same-length c = search needs
 
--- src/lib.rt:280:1
 returns-3 : tie.Need-returns-3
 returns-3 c =
     let a = c .before .before .before .before .before .before .before .before .before .before .before .before .before .args in
     let w = subst (KeywordRead (a .s .now) (a .at) word-N) (c .before .before .before .before .before .before .before .enum-told .given .1) (c .before .before .before .before .before .before .before .before .before .keyword-at .ensures) in
     outcome-no-table (a .s .now) (a .n) (a .count) (a .at) w (subst (RowsRead cellNumbers (a .s .now) _ (a .table .now) _) (c .before .rows .given .1) (c .before .before .before .before .before .table-at .ensures))
 
--- src/lib.rt:280:1
 same-length-2 : tie.Need-same-length-2
 same-length-2 c = search needs
 
--- src/lib.rt:280:1
 returns-4 : tie.Need-returns-4
 returns-4 c =
     let a = c .before .before .before .before .before .before .before .before .before .before .before .before .before .args in

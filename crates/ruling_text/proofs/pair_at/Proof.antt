@@ -17,7 +17,8 @@ enum-known-i-2 : tie.Need-enum-known-i-2
 enum-known-i-2 c = search needs
 
 number-at-requires-2 : tie.Need-number-at-requires-2
-number-at-requires-2 c κs = let a = c .before .before .before .before .before .args in
+number-at-requires-2 c κs =
+    let a = c .before .before .before .before .before .args in
     subst (NumberRead (a .s .now) (a .at) 1 (a .n)) (c .before .i2 .given .1) (c .before .before .before .number-at .ensures) .within
 
 enum-known-j : tie.Need-enum-known-j
@@ -30,18 +31,21 @@ enum-known-j-2 : tie.Need-enum-known-j-2
 enum-known-j-2 c = search needs
 
 returns : tie.Need-returns
-returns c = let a = c .before .before .before .before .before .args in
+returns c =
+    let a = c .before .before .before .before .before .args in
     let i = subst (NumberRead (a .s .now) (a .at) 1 (a .n)) (c .before .i .given .1) (c .before .before .before .number-at .ensures) in
     no-trainee (a .k) (a .n) _ (i (a .k))
 
 returns-2 : tie.Need-returns-2
-returns-2 c = let a = c .before .before .before .before .before .before .before .before .before .args in
+returns-2 c =
+    let a = c .before .before .before .before .before .before .before .before .before .args in
     let i = subst (NumberRead (a .s .now) (a .at) 1 (a .n)) (c .before .before .before .before .before .i2 .given .1) (c .before .before .before .before .before .before .before .number-at .ensures) in
     let j = subst (NumberRead (a .s .now) _ 1 64) (c .before .j .given .1) (c .before .before .before .number-at2 .ensures) in
     no-depot (a .k) (a .n) _ (i .goes (a .k)) (j (a .k + 1))
 
 returns-3 : tie.Need-returns-3
-returns-3 c = let a = c .before .before .before .before .before .before .before .before .before .args in
+returns-3 c =
+    let a = c .before .before .before .before .before .before .before .before .before .args in
     let i = subst (NumberRead (a .s .now) (a .at) 1 (a .n)) (c .before .before .before .before .before .i2 .given .1) (c .before .before .before .before .before .before .before .number-at .ensures) in
     let j = subst (NumberRead (a .s .now) _ 1 64) (c .before .j2 .given .1) (c .before .before .before .number-at2 .ensures) in
     pair-is (a .s .now) (a .k) (a .n) (a .at) (i .goes (a .k)) (j .goes (a .k + 1)) (j .within)

@@ -27,7 +27,8 @@ shared-slice-read-put-number : tie.Need-shared-slice-read-put-number Inv-loop μ
 shared-slice-read-put-number c = search needs
 
 put-number-requires : tie.Need-put-number-requires Inv-loop μ-loop
-put-number-requires c κs = let a = c .before .before .before .before .before .before .args in
+put-number-requires c κs =
+    let a = c .before .before .before .before .before .before .args in
     let l = c .before .before .before .loop in
     let e = ap length (numbers-lines 0 (a .vs .now)) in
     lines-room fieldOf 0 (a .vs .now) 0 (l .inv .1) (omega arith) (omega arith)
@@ -39,7 +40,8 @@ loop-less : tie.Need-loop-less Inv-loop μ-loop
 loop-less c = omega arith
 
 loop-again : tie.Need-loop-again Inv-loop μ-loop
-loop-again c = let a = c .before .before .before .before .before .before .before .before .before .args in
+loop-again c =
+    let a = c .before .before .before .before .before .before .before .before .before .args in
     let l = c .before .before .before .before .before .before .loop in
     (omega arith, lines-more fieldOf 0 (a .vs .now) 0 (l .inv .1) (omega arith) (c .before .before .put-number .ensures))
 
@@ -47,7 +49,8 @@ same-length : tie.Need-same-length Inv-loop μ-loop
 same-length c = put-length (c .before .loop .inv .1)
 
 returns : tie.Need-returns Inv-loop μ-loop
-returns c = let a = c .before .before .before .before .args in
+returns c =
+    let a = c .before .before .before .before .args in
     let l = c .before .loop in
     put-as (numbers-lines 0 (a .vs .now)) (lines-whole fieldOf 0 (a .vs .now) 0 {i = l .i} (l .inv .1) (omega arith))
 

@@ -16,7 +16,8 @@ enum-told c = search needs
 
 put-table-requires : tie.Need-put-table-requires
 unfolding outcomeIn writeOutcome
-put-table-requires c κs = let s = c .before .before .before .before .before in
+put-table-requires c κs =
+    let s = c .before .before .before .before .before in
     let a = s .args in
     let e = c .before .enum-told .given .1 in (
       s .pre .0,
@@ -35,7 +36,8 @@ slice-aggregate-put-line-2 c = search needs
 
 put-line-requires : tie.Need-put-line-requires
 unfolding outcomeIn writeOutcome writeNone
-put-line-requires c κs = let s = c .before .before .before .before .before .before .before .before in
+put-line-requires c κs =
+    let s = c .before .before .before .before .before .before .before .before in
     let a = s .args in
     subst (λ x. a .at + length (writeOutcome (outcomeIn (a .n) x (a .table .now))) ≤ length (a .out .now)) (c .before .before .before .before .ending .given .1) (s .pre .2)
 
@@ -50,7 +52,8 @@ slice-aggregate-put-line-4 c = search needs
 
 put-line-requires-2 : tie.Need-put-line-requires-2
 unfolding outcomeIn writeOutcome writeNone
-put-line-requires-2 c κs = let s = c .before .before .before .before .before .before .before .before in
+put-line-requires-2 c κs =
+    let s = c .before .before .before .before .before .before .before .before in
     let a = s .args in
     subst (λ x. a .at + length (writeOutcome (outcomeIn (a .n) x (a .table .now))) ≤ length (a .out .now)) (c .before .before .before .before .ending2 .given .1) (s .pre .2)
 
@@ -59,7 +62,8 @@ same-length c = search needs
 
 returns : tie.Need-returns
 unfolding outcomeIn writeOutcome
-returns c = let a = c .before .before .before .before .before .before .before .before .args in
+returns c =
+    let a = c .before .before .before .before .before .before .before .before .args in
     put-as (ap (λ x. writeOutcome (outcomeIn (a .n) x (a .table .now))) (sym (c .before .before .before .before .enum-told .given .1))) (c .before .before .put-table .ensures)
 
 same-length-2 : tie.Need-same-length-2
@@ -67,7 +71,8 @@ same-length-2 c = search needs
 
 returns-2 : tie.Need-returns-2
 unfolding outcomeIn writeOutcome writeNone
-returns-2 c = let a = c .before .before .before .before .before .before .before .before .before .before .before .args in
+returns-2 c =
+    let a = c .before .before .before .before .before .before .before .before .before .before .before .args in
     put-as (ap (λ x. writeOutcome (outcomeIn (a .n) x (a .table .now))) (sym (c .before .before .before .before .before .before .before .ending .given .1))) (c .before .before .put-line .ensures)
 
 same-length-3 : tie.Need-same-length-3
@@ -75,7 +80,8 @@ same-length-3 c = search needs
 
 returns-3 : tie.Need-returns-3
 unfolding outcomeIn writeOutcome writeNone
-returns-3 c = let a = c .before .before .before .before .before .before .before .before .before .before .before .args in
+returns-3 c =
+    let a = c .before .before .before .before .before .before .before .before .before .before .before .args in
     put-as (ap (λ x. writeOutcome (outcomeIn (a .n) x (a .table .now))) (sym (c .before .before .before .before .before .before .before .ending2 .given .1))) (c .before .before .put-line2 .ensures)
 
 pub put-outcome-spec : {M : Type 1} → statement M

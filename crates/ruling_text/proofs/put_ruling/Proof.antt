@@ -16,13 +16,15 @@ slice-aggregate-put-line-2 c = search needs
 
 put-line-requires : tie.Need-put-line-requires
 unfolding writeHead
-put-line-requires c κs = let s = c .before .before .before .before .before .before in
+put-line-requires c κs =
+    let s = c .before .before .before .before .before .before in
     let a = s .args in
     omega (arith, parts-fit (a .trainees) (a .count) (a .ending) (a .table .now) (a .cells .now) (s .pre .0), s .pre .1)
 
 put-strikes-requires : tie.Need-put-strikes-requires
 unfolding writeHead
-put-strikes-requires c κs = let s = c .before .before .before .before .before .before .before .before .before .before in
+put-strikes-requires c κs =
+    let s = c .before .before .before .before .before .before .before .before .before .before in
     let a = s .args in
     let P = c .before .before .before .put-line .ensures in (
       s .pre .0 .strikes,
@@ -31,7 +33,8 @@ put-strikes-requires c κs = let s = c .before .before .before .before .before .
 
 put-outcome-requires : tie.Need-put-outcome-requires
 unfolding writeHead rulingIn
-put-outcome-requires c κs = let s = c .before .before .before .before .before .before .before .before .before .before .before .before .before .before in
+put-outcome-requires c κs =
+    let s = c .before .before .before .before .before .before .before .before .before .before .before .before .before .before in
     let a = s .args in
     let P = c .before .before .before .before .before .before .before .put-line .ensures in
     let Q = c .before .before .before .put-strikes .ensures in (
@@ -45,7 +48,8 @@ slice-aggregate-put-word c = search needs
 
 put-word-requires : tie.Need-put-word-requires
 unfolding writeHead
-put-word-requires c κs = let s = c .before .before .before .before .before .before .before .before .before .before .before .before .before .before .before .before .before .before .before in
+put-word-requires c κs =
+    let s = c .before .before .before .before .before .before .before .before .before .before .before .before .before .before .before .before .before .before .before in
     let a = s .args in
     let P = c .before .before .before .before .before .before .before .before .before .before .before .before .put-line .ensures in
     let Q = c .before .before .before .before .before .before .before .before .put-strikes .ensures in
@@ -57,7 +61,8 @@ same-length c = search needs
 
 returns : tie.Need-returns
 unfolding writeHead
-returns c = let a = c .before .before .before .before .before .before .before .before .before .before .before .before .before .before .before .before .before .before .before .before .before .before .args in
+returns c =
+    let a = c .before .before .before .before .before .before .before .before .before .before .before .before .before .before .before .before .before .before .before .before .before .before .args in
     parts-put (a .trainees) (a .count) (a .ending) (a .table .now) (a .cells .now) (c .before .before .before .before .before .before .before .before .before .before .before .before .before .before .before .put-line .ensures) (c .before .before .before .before .before .before .before .before .before .before .before .put-strikes .ensures) (c .before .before .before .before .before .before .before .put-outcome .ensures) (c .before .before .put-word .ensures)
 
 pub put-ruling-spec : {M : Type 1} → statement M

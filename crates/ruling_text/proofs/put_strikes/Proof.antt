@@ -21,7 +21,8 @@ abbrev μ-loop : tie.MeasureT-loop
 μ-loop out₀ at cells count i₀ p₀ t9 out i p = count - i
 
 loop-holds : tie.Need-loop-holds Inv-loop μ-loop
-loop-holds c = let a = c .before .before .args in
+loop-holds c =
+    let a = c .before .before .args in
     (omega arith, lines-begun writeStrike 1 (strikesIn (a .cells .now) (a .count)) (strikeAt (a .cells .now) 0) (a .out .now) (a .at))
 
 mul-from : tie.Need-mul-from Inv-loop μ-loop
@@ -46,7 +47,8 @@ part-put-line-end : tie.Need-part-put-line-end Inv-loop μ-loop
 part-put-line-end c = let s = c .before .before .before .before .before .before in omega (arith, held-room (s .args .cells .now) (s .args .count) (s .pre .0))
 
 put-line-requires : tie.Need-put-line-requires Inv-loop μ-loop
-put-line-requires c κs = let s = c .before .before .before .before .before .before .before in
+put-line-requires c κs =
+    let s = c .before .before .before .before .before .before .before in
     let a = s .args in
     let l = c .before .before .before .before .loop in
     rw (held-line (a .cells .now) (a .count) (s .pre .0) (1 + l .i) (l .i) (strikeAt (a .cells .now) 0) (omega arith))
@@ -59,7 +61,8 @@ loop-less : tie.Need-loop-less Inv-loop μ-loop
 loop-less c = omega arith
 
 loop-again : tie.Need-loop-again Inv-loop μ-loop
-loop-again c = let s = c .before .before .before .before .before .before .before .before .before .before in
+loop-again c =
+    let s = c .before .before .before .before .before .before .before .before .before .before in
     let a = s .args in
     let l = c .before .before .before .before .before .before .before .loop in
     let d = strikeAt (a .cells .now) 0 in (
@@ -72,7 +75,8 @@ same-length : tie.Need-same-length Inv-loop μ-loop
 same-length c = put-length (c .before .loop .inv .1)
 
 returns : tie.Need-returns Inv-loop μ-loop
-returns c = let a = c .before .before .before .before .args in
+returns c =
+    let a = c .before .before .before .before .args in
     let l = c .before .loop in
     lines-whole writeStrike 1 (strikesIn (a .cells .now) (a .count)) (strikeAt (a .cells .now) 0) {i = l .i} (l .inv .1) (omega (arith, strikes-length (a .cells .now) (a .count)))
 

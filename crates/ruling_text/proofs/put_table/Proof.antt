@@ -40,7 +40,8 @@ slice-aggregate-put-line-2 : tie.Need-slice-aggregate-put-line-2 Inv-loop μ-loo
 slice-aggregate-put-line-2 c = search needs
 
 put-line-requires : tie.Need-put-line-requires Inv-loop μ-loop
-put-line-requires c κs = let s = c .before .before .before .before .before .before .before .before in
+put-line-requires c κs =
+    let s = c .before .before .before .before .before .before .before .before in
     let a = s .args in
     let l = c .before .before .before .before .before .loop in
     rw (cell-line (a .table .now) (a .n) (l .i) (omega arith))
@@ -53,7 +54,8 @@ loop-less : tie.Need-loop-less Inv-loop μ-loop
 loop-less c = omega arith
 
 loop-again : tie.Need-loop-again Inv-loop μ-loop
-loop-again c = let a = c .before .before .before .before .before .before .before .before .before .before .before .args in
+loop-again c =
+    let a = c .before .before .before .before .before .before .before .before .before .before .before .args in
     let l = c .before .before .before .before .before .before .before .before .loop in (
       omega arith,
       lines-more writeCell 1 (take (a .n) (a .table .now)) 0 {i = l .i} (l .inv .1) (omega (arith, length-take-le (a .n) (a .table .now) (omega arith)))
@@ -64,7 +66,8 @@ same-length : tie.Need-same-length Inv-loop μ-loop
 same-length c = put-length (c .before .loop .inv .1)
 
 returns : tie.Need-returns Inv-loop μ-loop
-returns c = let a = c .before .before .before .before .args in
+returns c =
+    let a = c .before .before .before .before .args in
     let l = c .before .loop in
     lines-whole writeCell 1 (take (a .n) (a .table .now)) 0 {i = l .i} (l .inv .1) (omega (arith, length-take-le (a .n) (a .table .now) (omega arith)))
 
