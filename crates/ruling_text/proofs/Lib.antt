@@ -11,3 +11,5 @@ pub mod Ways
 pub mod Turns
 pub mod Conclusions
 pub mod Whole
+pub mod Says
+pub mod Refusals

@@ -10,6 +10,7 @@ use Rattle.meaning.specs.Numbers.{In}
 use Rattle.meaning.specs.Lists.{each-none, each-more, weigh}
 use Rattle.meaning.specs.Answers.{reasonNumber, reasonWitness, strikeNumbers}
 use Rattle.meaning.specs.declared.Reason.{Reason}
+use Rattle.meaning.specs.declared.Reason.the-variants.{Barred, HeldElsewhere, PostsGone, Passed}
 use Rattle.meaning.specs.declared.Strike.{Strike}
 use Rattle.fields.specs.Bytes.{LF, stop?}
 use Rattle.fields.specs.Reader.{got, lineEnd, keyword, number}
@@ -78,6 +79,13 @@ reason-coded n (suc (suc (suc (suc zero)))) w l h lo hi =
     record { legal = legal-passed (record { low = lo; high = hi }); number = refl; witness = refl }
 reason-coded n (suc (suc (suc (suc (suc k))))) w l h lo hi = absurd (omega arith)
 
+pub reason-again : (r : Reason) → reasonOf (reasonNumber r) (reasonWitness r) ≡ r
+unfolding reasonOf reasonNumber reasonWitness
+reason-again Barred = refl
+reason-again (HeldElsewhere j) = refl
+reason-again PostsGone = refl
+reason-again (Passed k) = refl
+
 -- what the numbers of a legal reason are
 record Numbered (n : ℕ) (r : Reason) : Type 0 where
   low : 1 ≤ reasonNumber r
@@ -85,21 +93,17 @@ record Numbered (n : ℕ) (r : Reason) : Type 0 where
   low-witness : lowWitness (reasonNumber r) ≤ reasonWitness r
   high-witness : reasonWitness r ≤ highWitness n (reasonNumber r)
   small : n ≤ 256 → highWitness n (reasonNumber r) ≤ 256
-  again : reasonOf (reasonNumber r) (reasonWitness r) ≡ r
 
 numbered : {n : ℕ} {r : Reason} → LegalReason n r → Numbered n r
-unfolding lowWitness highWitness reasonOf reasonNumber reasonWitness
+unfolding lowWitness highWitness reasonNumber reasonWitness
 numbered legal-barred =
-    record { low = omega arith; high = omega arith; low-witness = omega arith; high-witness = omega arith; small = λ h. omega arith; again = refl }
+    record { low = omega arith; high = omega arith; low-witness = omega arith; high-witness = omega arith; small = λ h. omega arith }
 numbered (legal-elsewhere g) =
-    record { low = omega arith; high = omega arith; low-witness = g .low; high-witness = g .high; small = λ h. omega arith; again = refl }
+    record { low = omega arith; high = omega arith; low-witness = g .low; high-witness = g .high; small = λ h. omega arith }
 numbered legal-gone =
-    record { low = omega arith; high = omega arith; low-witness = omega arith; high-witness = omega arith; small = λ h. omega arith; again = refl }
+    record { low = omega arith; high = omega arith; low-witness = omega arith; high-witness = omega arith; small = λ h. omega arith }
 numbered (legal-passed g) =
-    record { low = omega arith; high = omega arith; low-witness = g .low; high-witness = g .high; small = λ h. h; again = refl }
-
-pub reason-again : {n : ℕ} {r : Reason} → LegalReason n r → reasonOf (reasonNumber r) (reasonWitness r) ≡ r
-reason-again g = numbered g .again
+    record { low = omega arith; high = omega arith; low-witness = g .low; high-witness = g .high; small = λ h. h }
 
 reason-there : (n : ℕ) (x : Reason) (r : List ℕ) → n ≤ 256 → LegalReason n x → stops r ≡ true
     → reason n (writeNumber (reasonNumber x) ++ (writeNumber (reasonWitness x) ++ r)) ≡ got x r
@@ -111,7 +115,7 @@ reason-there n x r hn g t =
       number-there 4 1 4 k (writeNumber (reasonWitness x) ++ r) (b .low) (b .high) (lit< tt) (number-stops (reasonWitness x) r),
       number-there 5 (lowWitness k) (highWitness n k) (reasonWitness x) r (b .low-witness) (b .high-witness) (omega (arith, b .small hn)) t,
     )
-    (ap (λ z. got z r) (b .again))
+    (ap (λ z. got z r) (reason-again x))
 
 record ReasonRead (n : ℕ) (s r : List ℕ) (x : Reason) : Type 0 where
   legal : LegalReason n x
