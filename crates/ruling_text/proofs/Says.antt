@@ -11,12 +11,14 @@ use Rattle.meaning.specs.Endings.{Outcome, placed-by}
 use Rattle.meaning.specs.Solver.{WholeRuling, endingOf, headOf}
 use Rattle.meaning.specs.declared.Strike.{Strike}
 use Rattle.ruling_text.specs.Legal.{LegalOutcome, legal-table, legal-held, legal-room, LegalRuling}
-use Rattle.ruling_text.specs.Reader.{reasonOf}
+use Rattle.ruling_text.specs.Reader.{reasonOf, refused, readRuling}
 use Rattle.ruling_text.specs.Cells.{joined, strikeCells, tableCells, strikeAt, strikesFrom, strikesIn, outcomeIn, rulingIn, Held}
-use Rattle.ruling_text.specs.Code.{Laid}
+use Rattle.ruling_text.specs.Code.{Laid, TextTaken, endingCells, answered, answeredBy}
+use Rattle.ruling_text.specs.declared.RulingRead.the-variants.{Taken, Refused}
 use Rattle.meaning.specs.declared.Ruling.{Ruling}
 use Rattle.ruling_text.proofs.Strikes.{reason-again}
 use Rattle.ruling_text.proofs.Quads.{quads-length}
+use Rattle.ruling_text.proofs.Round.{ruling-back}
 
 -- ---- strikes
 
@@ -111,3 +113,47 @@ module _ (r : WholeRuling) {head : Ruling} {table table′ cells cells′ : List
   unfolding headOf
   read-holds =
       subst (λ h. Held (h .trainees) (h .strikes) (h .ending) table′ cells′) (L .said) (cells-hold r table′ cells′ g (fronts .0) (fronts .1))
+
+-- ---- what is copied of it
+
+cells-used : {n : ℕ} {o : Outcome} → LegalOutcome n o → endingCells n (endingOf o) ≡ length (tableCells o)
+unfolding endingOf tableCells
+cells-used (legal-table e h) = sym e
+cells-used (legal-held h g) = refl
+cells-used (legal-room h g) = refl
+
+module _ {s : List ℕ} {head : Ruling} {t t′ k k′ : List ℕ} (T : TextTaken s head t t′ k k′) where
+  legal-taken : LegalRuling (T .it)
+  legal-taken = ruling-back s (T .it) (T .goes) .0
+
+  pub taken-cells : endingCells (head .trainees) (head .ending) ≡ length (tableCells (T .it .outcome))
+  unfolding headOf
+  taken-cells =
+      subst (λ h. endingCells (h .trainees) (h .ending) ≡ length (tableCells (T .it .outcome))) (T .laid .said) (cells-used (legal-taken .outcome))
+
+  pub taken-strikes : 4 * head .strikes ≡ length (strikeCells (T .it .strikes))
+  unfolding headOf
+  taken-strikes = ap (λ h. 4 * h .strikes) (sym (T .laid .said)) ∙ sym (quads-length (T .it .strikes))
+
+  pub table-few : length (tableCells (T .it .outcome)) ≤ 256
+  table-few = table-fits (legal-taken .n) (legal-taken .outcome)
+
+  pub strikes-few : length (strikeCells (T .it .strikes)) ≤ 16384
+  strikes-few = omega (arith, legal-taken .few-strikes, quads-length (T .it .strikes))
+
+  -- the cells of a table or of strikes, copied from where they were laid
+  copied : (l : List ℕ) {l′ : List ℕ} (to : List ℕ) {to′ : List ℕ} (vs : List ℕ) {n : ℕ} → l′ ≡ sets l 0 vs → n ≡ length vs → length vs ≤ length l → to′ ≡ sets to 0 (take n l′) → to′ ≡ sets to 0 vs
+  copied l to vs e m h c = c ∙ ap₂ (λ x y. sets to 0 (take x y)) m e ∙ ap (sets to 0) (front-set l vs h)
+
+  pub answer-taken : (table cells : List ℕ) {table′ cells′ : List ℕ} {n : ℕ} → n ≡ endingCells (head .trainees) (head .ending) → 256 ≤ length t → 16384 ≤ length k
+      → table′ ≡ sets table 0 (take n t′) → cells′ ≡ sets cells 0 (take (4 * head .strikes) k′)
+      → answered (Taken head) table′ cells′ ≡ answeredBy (readRuling s) table cells
+  unfolding answeredBy
+  answer-taken table cells m ht hk et ek =
+      let x = copied t table (tableCells (T .it .outcome)) (T .laid .in-table) (m ∙ taken-cells) (omega (arith, table-few)) et in
+      let y = copied k cells (strikeCells (T .it .strikes)) (T .laid .in-cells) taken-strikes (omega (arith, strikes-few)) ek in
+      (λ i. answered (Taken (sym (T .laid .said) i)) (x i) (y i)) ∙ ap (λ z. answeredBy z table cells) (sym (T .goes))
+
+pub answer-refused : (s table cells : List ℕ) {e l k : ℕ} → readRuling s ≡ refused e l k → answered (Refused e l k) table cells ≡ answeredBy (readRuling s) table cells
+unfolding answeredBy
+answer-refused s table cells h = ap (λ z. answeredBy z table cells) (sym h)

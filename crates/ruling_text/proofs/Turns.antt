@@ -1,13 +1,13 @@
 -- A loop over lines that stores each line's numbers: what holds after c lines.
 -- Assumes nothing.
 use Prim.Native.Nat.{ℕ, suc, _+_, _-_, _*_, _≤_, _<_}
-use mathlib.Core.Path.{_≡_, refl, sym, ap, _∙_}
+use mathlib.Core.Path.{_≡_, refl, sym, ap, ap₂, _∙_}
 use mathlib.Core.List.{List, [], _∷_, _++_, append-assoc, append-nil}
 use native.Mathlib.Omega.{arith}
 use native.Mathlib.Nat.{sub-zero, mul-zero, mul-suc}
 use native.Mathlib.Numerals.{add-one}
-use lib.ListN.{length, drop, set, length-append}
-use lib.Seq.{sets, length-sets}
+use lib.ListN.{length, getD, take, drop, set, length-append}
+use lib.Seq.{sets, length-sets, take-suc, length-take-le}
 use Rattle.fields.specs.Reader.{got, refusal, Reader, lines}
 use Rattle.fields.proofs.Puts.{sets-append}
 use Rattle.ruling_text.specs.Reader.{weightless, strikeFields, strikeLine, cellFields, cellLine}
@@ -106,3 +106,11 @@ four-stored t at a b c d =
 
 pub one-stored : (t : List ℕ) (c j : ℕ) → set t c j ≡ sets t (1 * c) (j ∷ [])
 one-stored t c j = let e : c ≡ 1 * c = omega arith in ap (λ z. set t z j) e
+
+-- the first i cells of `from` are copied, and now one more
+pub one-copied : (to₀ to from : List ℕ) (i : ℕ) → i < length from → to ≡ sets to₀ 0 (take i from) → set to i (getD from i 0) ≡ sets to₀ 0 (take (i + 1) from)
+one-copied to₀ to from i h e =
+    let n : 0 + length (take i from) ≡ i = omega (arith, length-take-le i from (omega arith)) in
+    ap₂ (λ z k. set z k (getD from i 0)) e (sym n)
+    ∙ sym (sets-append to₀ 0 (take i from) (getD from i 0 ∷ []))
+    ∙ ap (sets to₀ 0) (sym (take-suc from i 0 h) ∙ ap (λ k. take k from) (sym (add-one i)))

@@ -13,7 +13,7 @@ use Rattle.meaning.specs.declared.Ending.{Ending}
 use Rattle.meaning.specs.declared.Ending.the-variants.{Placed, NoneHeld, NoneRoom}
 use Rattle.meaning.specs.declared.Ruling.{Ruling}
 use Rattle.fields.specs.Reader.{Step, got, refusal}
-use Rattle.ruling_text.specs.Reader.{Pair, Head, taken, refused, readRuling}
+use Rattle.ruling_text.specs.Reader.{Pair, Head, Read, taken, refused, readRuling}
 use Rattle.ruling_text.specs.Cells.{joined, strikeCells, tableCells}
 use Rattle.ruling_text.specs.declared.One.{One}
 use Rattle.ruling_text.specs.declared.One.the-variants.{Is, Not as NotOne}
@@ -145,3 +145,23 @@ pub record TextTaken (s : List ℕ) (head : Ruling) (table table′ cells cells�
 abbrev pub TextRead : List ℕ → List ℕ → List ℕ → List ℕ → List ℕ → RulingRead → Type 0
 TextRead s table table′ cells cells′ (Taken head) = TextTaken s head table table′ cells cells′
 TextRead s table table′ cells cells′ (Refused e l k) = readRuling s ≡ refused e l k
+
+-- how many cells of the table an outcome of n trainees with this ending uses
+abbrev pub endingCells : ℕ → Ending → ℕ
+endingCells n Placed = n
+endingCells n (NoneHeld i j) = 0
+endingCells n (NoneRoom i j) = 0
+
+-- the answer, and what the lent cells hold afterwards
+pub record Answered : Type 0 where
+  pub answer : RulingRead
+  pub table : List ℕ
+  pub cells : List ℕ
+
+abbrev pub answered : RulingRead → List ℕ → List ℕ → Answered
+answered r table cells = record { answer = r; table = table; cells = cells }
+
+-- a ruling changes the cells that it uses, and a refusal none
+unfoldable pub answeredBy : Read → List ℕ → List ℕ → Answered
+answeredBy (taken r) table cells = answered (Taken (headOf r)) (sets table 0 (tableCells (r .outcome))) (sets cells 0 (strikeCells (r .strikes)))
+answeredBy (refused e l k) table cells = answered (Refused e l k) table cells

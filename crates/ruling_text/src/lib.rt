@@ -10,8 +10,8 @@ ghost use Rattle.fields.specs.Writer.{writeLines};
 ghost use Rattle.ruling_text.specs.Legal.{LegalOutcome};
 ghost use Rattle.meaning.specs.Answers.{strikeNumbers};
 ghost use Rattle.meaning.specs.Solver.{endingOf};
-ghost use Rattle.ruling_text.specs.Reader.{pair, lowWitness, highWitness, reason, strikeFields, strikeLine, cellFields, cellLine, weightless, noneOf, noneFields, outcome, finish, conclusion, body, sizes, headFields};
-ghost use Rattle.ruling_text.specs.Code.{pairNumbers, reasonNumbers, cellNumbers, headNumbers, OneRead, TwoRead, FourRead, RowsRead, NoneRead, ConclusionRead, endingLines, LastRead, EndRead, BodyRead, TextRead};
+ghost use Rattle.ruling_text.specs.Reader.{pair, lowWitness, highWitness, reason, strikeFields, strikeLine, cellFields, cellLine, weightless, noneOf, noneFields, outcome, finish, conclusion, body, sizes, headFields, readRuling};
+ghost use Rattle.ruling_text.specs.Code.{pairNumbers, reasonNumbers, cellNumbers, headNumbers, OneRead, TwoRead, FourRead, RowsRead, NoneRead, ConclusionRead, endingLines, LastRead, EndRead, BodyRead, TextRead, endingCells, answered, answeredBy};
 ghost use Rattle.ruling_text.specs.Writer.{writeNumbers, writeLine, writeStrike, writeCell, writeOutcome, rulingText};
 ghost use Rattle.ruling_text.specs.Cells.{strikeCells, strikesIn, outcomeIn, rulingIn, Held};
 use fields::Found;
@@ -442,6 +442,51 @@ pub fn get_ruling(s: &[u8], table: &mut [u16], cells: &mut [u16]) -> RulingRead
     match head {
         Two::Not(e, k) => RulingRead::Refused(e, 1, k),
         Two::Are(n, count, p) => body_at(s, p, n, count, table, cells),
+    }
+}
+
+// The first n cells of `from` into `to`.
+fn copy(to: &mut [u16], from: &[u16], n: usize)
+    requires { ⌜ (n ≤ length (now to)) × (n ≤ length (now from)) ⌝ }
+    ensures { λ r. ⌜ now (to .exit) ≡ sets (now (to .entry)) 0 (take n (now (from .entry))) ⌝ }
+{
+    let mut i: usize = 0;
+    while i < n {
+        to[i] = from[i];
+        i += 1;
+    }
+}
+
+// How many cells of the table an outcome of n trainees with this ending uses.
+fn cells_of(n: u16, ending: Ending) -> u16
+    ensures { λ r. ⌜ r ≡ endingCells n ending ⌝ }
+{
+    match ending {
+        Ending::Placed => n,
+        Ending::NoneHeld(_, _) => 0,
+        Ending::NoneRoom(_, _) => 0,
+    }
+}
+
+// A ruling text, into the fronts of the lent tables; a refusal changes no cell.
+pub fn read_cells(s: &[u8], table: &mut [u16], cells: &mut [u16]) -> RulingRead
+    requires { ⌜ (256 ≤ length (now table)) × (16384 ≤ length (now cells)) ⌝ }
+    ensures { λ r. ⌜ answered r (now (table .exit)) (now (cells .exit)) ≡ answeredBy (readRuling (now (s .entry))) (now (table .entry)) (now (cells .entry)) ⌝ }
+{
+    let mut held = [0u16; 256];
+    let mut struck = [0u16; 16384];
+    let read = get_ruling(s, &mut held, &mut struck);
+    match read {
+        RulingRead::Refused(e, l, k) => RulingRead::Refused(e, l, k),
+        RulingRead::Taken(ruling) => {
+            let n = ruling.trainees;
+            let count = ruling.strikes;
+            let ending = ruling.ending;
+            let used = cells_of(n, ending);
+            copy(table, &held, used as usize);
+            copy(cells, &struck, 4 * (count as usize));
+            RulingRead::Taken(ruling)
+        }
     }
 }
 
