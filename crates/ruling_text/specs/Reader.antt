@@ -1,6 +1,6 @@
 -- How a ruling text is read, and what is refused (document 01, "The two texts" and "Numbers given back").
 -- Assumes nothing.
-use Prim.Native.Nat.{ℕ, _+_}
+use Prim.Native.Nat.{ℕ, zero, suc, _+_}
 use mathlib.Core.Bool.{true, false}
 use mathlib.Core.List.{List, []}
 use lib.ListN.{length}
@@ -37,13 +37,13 @@ lowWitness k = elim (eqb k 2) [ true ↦ 1 | false ↦ elim (eqb k 4) [ true ↦
 unfoldable pub highWitness : ℕ → ℕ → ℕ
 highWitness n k = elim (eqb k 2) [ true ↦ DEPOTS | false ↦ elim (eqb k 4) [ true ↦ n | false ↦ 0 ] ]
 
--- the reason of a number of 1 to 4, with its witness
+-- the reason of a number of 1 to 4, with its witness; no other number is read
 unfoldable pub reasonOf : ℕ → ℕ → Reason
-reasonOf k w =
-    elim (eqb k 1) [
-      | true ↦ Barred
-      | false ↦ elim (eqb k 2) [ true ↦ HeldElsewhere w | false ↦ elim (eqb k 3) [ true ↦ PostsGone | false ↦ Passed w ] ]
-    ]
+reasonOf zero w = Barred
+reasonOf (suc zero) w = Barred
+reasonOf (suc (suc zero)) w = HeldElsewhere w
+reasonOf (suc (suc (suc zero))) w = PostsGone
+reasonOf (suc (suc (suc (suc k)))) w = Passed w
 
 -- reason and witness
 unfoldable pub reason : ℕ → Reader Reason
