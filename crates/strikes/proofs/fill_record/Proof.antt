@@ -42,8 +42,8 @@ use denote.Triple.Walked.{says, needs, Stays, stay-none, stay-slice, stay-none-s
 use denote.Exit.{yes}
 use denote.Signature.{plain}
 use Rattle.meaning.specs.declared.Strike.{Strike}
-use Rattle.strikes.specs.Cells.{strikeAt}
-use Rattle.strikes.proofs.Rows.{filled, fill-start, fill-length, fill-more}
+use Rattle.strikes.specs.Cells.{filled, strikeAt}
+use Rattle.strikes.proofs.Rows.{fill-start, fill-length, fill-more}
 use Rattle.meaning.proofs.Strike as T
 use Rattle.meaning.proofs.Strike.Laws as T′
 use Rattle.strikes.proofs.Calls.{Store, StrikeIn, calls-store, calls-strike-in}

@@ -42,8 +42,8 @@ use denote.Triple.Walked.{says, needs, Stays, stay-none, stay-slice, stay-none-s
 use denote.Exit.{yes}
 use denote.Signature.{plain}
 use Rattle.meaning.specs.declared.Strike.{Strike}
-use Rattle.strikes.specs.Cells.{at}
-use Rattle.strikes.proofs.Rows.{flat, flat-start, flat-length, flat-more}
+use Rattle.strikes.specs.Cells.{at, flat}
+use Rattle.strikes.proofs.Rows.{flat-start, flat-length, flat-more}
 use Rattle.meaning.proofs.Strike as T
 use Rattle.meaning.proofs.Strike.Laws as T′
 use Rattle.strikes.proofs.Calls.{Put, StrikeAt, calls-put, calls-strike-at}
