@@ -97,3 +97,7 @@ module _ (log : List Strike) (old : List ℕ) where
   flat-strikes k h =
       let l : length (take k log) ≡ k = length-take-le k log h in
       strikes-of (take k log) (drop (4 * k) old) k (omega arith) ∙ take-all k (take k log) (omega arith)
+
+  -- flattened and filled in again, the strikes are the same
+  pub flat-filled : (k : ℕ) → k ≤ length log → (other : List Strike) → filled (flat log old k) other k ≡ take k log ++ drop k other
+  flat-filled k h other = ap (λ l. l ++ drop k other) (flat-strikes k h)
