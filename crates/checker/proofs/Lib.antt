@@ -1,0 +1,5 @@
+-- Laws of the checker's steps.
+
+pub mod Ways
+pub mod Allowed
+pub mod Replaying

@@ -1,0 +1,3 @@
+-- What the checker reads off tables and rows.
+pub mod Step
+pub mod Turns

@@ -1,0 +1,196 @@
+// The checker of a ruling in plain cells: its strikes are replayed on rows of struck places, then the ending is tried.
+ghost use mathlib.Core.Path.{_≡_};
+ghost use Prim.Native.Nat.{ℕ, _+_, _-_, _*_, _≤_, _<_};
+ghost use lib.ListN.{length, getD};
+ghost use lib.Dec.{leb, eqb, ltb};
+ghost use mathlib.Core.Bool.{not};
+ghost use Rattle.meaning.specs.Numbers.{In, _&_};
+ghost use Rattle.meaning.specs.Lists.{place};
+ghost use Rattle.ranks.specs.View.{nOf, mOf, postsOf, FullTables};
+ghost use Rattle.reasons.specs.Rows.{OrderRows};
+ghost use Rattle.reasons.specs.Scans.{countIn};
+ghost use Rattle.reasons.specs.Reasons.{settled, aboveOf};
+ghost use Rattle.checker.specs.Step.{openAt, ordered, fitsIn, mayStrike, rowsWith};
+ghost use Rattle.checker.specs.Turns.{TraineesIn, rowsAfter, Going, ReplaySays};
+use meaning::Reason;
+use meaning::Strike;
+
+// What a replay of strikes finds: each was allowed when its turn came, or the step that was not.
+pub enum Replayed {
+    AllAllowed,
+    Stopped(u16),
+}
+
+// Whether a row of orders marks depot j, which may be any number.
+fn marks_depot(row: u64, m: usize, j: usize) -> bool
+    requires { ⌜ m ≤ 64 ⌝ }
+    ensures { λ r. ⌜ r ≡ ordered m row j ⌝ }
+{
+    if j < 1 {
+        return false;
+    }
+    if m < j {
+        return false;
+    }
+    rows::marked(row, j - 1)
+}
+
+// Whether a trainee with this row of holds is held at k, and k isn't j: reason 2 with its witness.
+fn held_elsewhere(row: u64, m: usize, k: usize, j: usize) -> bool
+    requires { ⌜ m ≤ 64 ⌝ }
+    ensures { λ r. ⌜ r ≡ ordered m row k & not (eqb k j) ⌝ }
+{
+    if !marks_depot(row, m, k) {
+        return false;
+    }
+    k != j
+}
+
+// Whether (i, j) is mutual and not struck so far: one mark says both.
+fn is_open(heads: &[u16], entries: &[u16], rows: &[u64], i: usize, j: usize) -> bool
+    requires { ⌜ FullTables (now heads) (now entries) × In (nOf (now heads)) i × (nOf (now heads) < length (now rows)) ⌝ }
+    ensures { λ r. ⌜ r ≡ openAt (now (heads .entry)) (now (entries .entry)) (now (rows .entry)) i j ⌝ }
+{
+    let wishes = ranks::trainee_part(heads, entries, i);
+    let p = ranks::place_on(wishes, j);
+    if p == 0 {
+        return false;
+    }
+    !rows::marked(rows[i], p - 1)
+}
+
+// How many places stand before place p; none where p is no place.
+fn before(p: usize) -> usize
+    ensures { λ r. ⌜ r ≡ p - 1 ⌝ }
+{
+    if p == 0 { 0 } else { p - 1 }
+}
+
+// The part of j's list above i.
+fn above_part<'a>(heads: &[u16], entries: &'a [u16], i: usize, j: usize) -> &'a [u16]
+    requires { ⌜ FullTables (now heads) (now entries) × In (mOf (now heads)) j ⌝ }
+    ensures { λ r. ⌜ now r ≡ aboveOf (now (heads .entry)) (now (entries .entry)) i j ⌝ }
+{
+    let ranking = ranks::depot_part(heads, entries, j);
+    let end = before(ranks::place_on(ranking, i));
+    &ranking[0..end]
+}
+
+// Reason 3: as many as j has posts are above i on its list and have everything above j struck.
+fn posts_gone(heads: &[u16], entries: &[u16], rows: &[u64], i: usize, j: usize) -> bool
+    requires { ⌜ FullTables (now heads) (now entries) × In (mOf (now heads)) j × (nOf (now heads) < length (now rows)) ⌝ }
+    ensures { λ r. ⌜ r ≡ leb (postsOf (now (heads .entry)) j) (countIn (settled (now (heads .entry)) (now (entries .entry)) (now (rows .entry)) 1 j) (aboveOf (now (heads .entry)) (now (entries .entry)) i j)) ⌝ }
+{
+    let above = above_part(heads, entries, i, j);
+    let t = reasons::pass_along(heads, entries, rows, above, j);
+    let settled = t.settled;
+    ranks::posts_at(heads, entries, j) <= settled
+}
+
+// Reason 4 with its witness k: above i on j's list, with everything down to j struck.
+fn passed_by(heads: &[u16], entries: &[u16], rows: &[u64], i: usize, j: usize, k: usize) -> bool
+    requires { ⌜ FullTables (now heads) (now entries) × In (mOf (now heads)) j × (nOf (now heads) < length (now rows)) ⌝ }
+    ensures { λ r. ⌜ r ≡ ltb 0 (place (aboveOf (now (heads .entry)) (now (entries .entry)) i j) k) & settled (now (heads .entry)) (now (entries .entry)) (now (rows .entry)) 0 j k ⌝ }
+{
+    let above = above_part(heads, entries, i, j);
+    if ranks::place_on(above, k) == 0 {
+        return false;
+    }
+    2 <= reasons::settled_with(heads, entries, rows, j, k)
+}
+
+// Whether the reason, with its own witness, fits the pair now; no other witness is looked for.
+fn reason_fits(
+    heads: &[u16],
+    entries: &[u16],
+    holds: &[u64],
+    bars: &[u64],
+    rows: &[u64],
+    i: usize,
+    j: usize,
+    why: Reason,
+) -> bool
+    requires { ⌜ FullTables (now heads) (now entries) × OrderRows (now heads) (now holds) (now bars) × In (nOf (now heads)) i × In (mOf (now heads)) j × (nOf (now heads) < length (now rows)) ⌝ }
+    ensures { λ r. ⌜ r ≡ fitsIn (now (heads .entry)) (now (entries .entry)) (now (holds .entry)) (now (bars .entry)) (now (rows .entry)) i j why ⌝ }
+{
+    match why {
+        Reason::Barred => rows::marked(bars[i], j - 1),
+        Reason::HeldElsewhere(k) => held_elsewhere(
+            holds[i],
+            tables::depots_of(heads),
+            reasons::wide(k),
+            j,
+        ),
+        Reason::PostsGone => posts_gone(heads, entries, rows, i, j),
+        Reason::Passed(k) => passed_by(heads, entries, rows, i, j, reasons::wide(k)),
+    }
+}
+
+// One step: whether the strike is allowed now.
+pub fn may_strike(
+    heads: &[u16],
+    entries: &[u16],
+    holds: &[u64],
+    bars: &[u64],
+    rows: &[u64],
+    s: Strike,
+) -> bool
+    requires { ⌜ FullTables (now heads) (now entries) × OrderRows (now heads) (now holds) (now bars) × In (nOf (now heads)) (s .trainee) × (nOf (now heads) < length (now rows)) ⌝ }
+    ensures { λ r. ⌜ r ≡ mayStrike (now (heads .entry)) (now (entries .entry)) (now (holds .entry)) (now (bars .entry)) (now (rows .entry)) s ⌝ }
+{
+    let i = reasons::wide(s.trainee);
+    let j = reasons::wide(s.depot);
+    if !is_open(heads, entries, rows, i, j) {
+        return false;
+    }
+    let why = s.reason;
+    reason_fits(heads, entries, holds, bars, rows, i, j, why)
+}
+
+// One step on the rows: an allowed strike is marked, any other changes nothing.
+fn strike_one(
+    heads: &[u16],
+    entries: &[u16],
+    holds: &[u64],
+    bars: &[u64],
+    rows: &mut [u64],
+    s: Strike,
+) -> bool
+    requires { ⌜ FullTables (now heads) (now entries) × OrderRows (now heads) (now holds) (now bars) × In (nOf (now heads)) (s .trainee) × (nOf (now heads) < length (now rows)) ⌝ }
+    ensures { λ r. ⌜ (r ≡ mayStrike (now (heads .entry)) (now (entries .entry)) (now (holds .entry)) (now (bars .entry)) (now (rows .entry)) s)
+        × (now (rows .exit) ≡ rowsAfter r (rowsWith (now (heads .entry)) (now (entries .entry)) (now (rows .entry)) s) (now (rows .entry))) ⌝ }
+{
+    if !may_strike(heads, entries, holds, bars, rows, s) {
+        return false;
+    }
+    let i = reasons::wide(s.trainee);
+    let wishes = ranks::trainee_part(heads, entries, i);
+    let p = ranks::place_on(wishes, reasons::wide(s.depot));
+    rows::mark(rows, i, p - 1);
+    true
+}
+
+// Replays the strikes in turn, up to the first that isn't allowed.
+fn replay(
+    heads: &[u16],
+    entries: &[u16],
+    holds: &[u64],
+    bars: &[u64],
+    rows: &mut [u64],
+    cells: &[u16],
+    count: usize,
+) -> Replayed
+    requires { ⌜ FullTables (now heads) (now entries) × OrderRows (now heads) (now holds) (now bars) × TraineesIn (nOf (now heads)) (now cells) count
+        × Going (now heads) (now entries) (now holds) (now bars) (now cells) count 0 (now rows) × (4 * count ≤ length (now cells)) × (count ≤ 4096) ⌝ }
+    ensures { λ r. ⌜ ReplaySays (now (heads .entry)) (now (entries .entry)) (now (holds .entry)) (now (bars .entry)) (now (cells .entry)) count (now (rows .exit)) r ⌝ }
+{
+    let mut k: usize = 0;
+    while k < count {
+        let s = strikes::strike_in(cells, k);
+        if !strike_one(heads, entries, holds, bars, &mut *rows, s) {
+            return Replayed::Stopped((k + 1) as u16);
+        }
+        k += 1;
+    }
+    Replayed::AllAllowed
+}
