@@ -1,7 +1,7 @@
 -- What is chosen from the rows is what the meaning chooses from the struck set.
 -- Assumes nothing.
 use Prim.Native.Nat.{ℕ, _+_, _-_, _≤_, _<_}
-use mathlib.Core.Path.{_≡_, refl, sym, ap, ap₂, _∙_, subst}
+use mathlib.Core.Path.{_≡_, refl, sym, ap, _∙_, subst}
 use mathlib.Core.Logic.{_⊎_, inl, inr, ⊎-elim}
 use mathlib.Core.Bool.{Bool, true, false, not}
 use mathlib.Core.Option.{Option, none, some}
@@ -11,7 +11,7 @@ use native.Mathlib.Nat.{add-zero}
 use lib.ListN.{getD, take}
 use lib.Dec.{ltb, leb, eqb}
 use borrow.Author.Tests.{ltb-true, ltb-false, lt-ltb, leb-true, le-leb, eqb-false, ne-eqb, not-true, not-false}
-use Rattle.reasons.specs.Rows.{RowsHold, standingOf, OrderRows}
+use Rattle.reasons.specs.Rows.{RowsHold, rowPairs, standingOf, OrderRows}
 use Rattle.reasons.specs.Scans.{countIn, leastIn}
 use Rattle.reasons.specs.Reasons.{settled, aboveOf, numberOr, depotAt, heldElsewhere, choiceIn}
 use Rattle.reasons.proofs.Settled.{above-first, down-first}
@@ -143,11 +143,11 @@ module _ (h e : List ℕ) (ft : FullTables h e) (O : Standing) (S : Struck) (row
 module _ (h e holds bars : List ℕ) (ft : FullTables h e) (orders : OrderRows h holds bars) (S : Struck) (rows : List ℕ)
     (hold : RowsHold (marketOf h e) (wishesOf h e) S rows) (i j : ℕ) (ri : In (nOf h) i) (rj : In (mOf h) j) (ranked : 0 < place (rankingOf h e j) i) where
   pub barred-same : isMarked (getD bars i 0) (j - 1) ≡ fits (marketOf h e) (standingOf h holds bars) S i j Barred
-  unfolding fits standingOf _&_
+  unfolding fits standingOf rowPairs _&_
   barred-same = rw (in-within _ _ ri, in-within _ _ rj)
 
   pub elsewhere-test : (k : ℕ) → In (mOf h) k → fits (marketOf h e) (standingOf h holds bars) S i j (HeldElsewhere k) ≡ isMarked (getD holds i 0) (k - 1) & not (eqb k j)
-  unfolding fits standingOf _&_
+  unfolding fits standingOf rowPairs _&_
   elsewhere-test k rk = rw (in-within _ _ ri, in-within _ _ rk)
 
   pub choice-same : choiceIn h e holds bars rows i j ≡ choose (marketOf h e) (standingOf h holds bars) S i j

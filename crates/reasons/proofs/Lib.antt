@@ -4,3 +4,5 @@ pub mod Counts
 pub mod Least
 pub mod Choosing
 pub mod Steps
+pub mod Starting
+pub mod Noting

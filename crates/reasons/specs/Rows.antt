@@ -36,11 +36,15 @@ startRow h e i = rowWhere (shutAt h e i)
 
 -- ---- orders
 
+-- the pairs of 1 to n and 1 to m that order rows mark
+unfoldable pub rowPairs : ℕ → ℕ → List ℕ → ℕ → ℕ → Bool
+rowPairs n m rows i j = within n i & (within m j & isMarked (getD rows i 0) (j - 1))
+
 -- the rows mark the pairs that orders of these kinds name
 unfoldable pub standingOf : List ℕ → List ℕ → List ℕ → Standing
 standingOf h holds bars = record {
-  held = λ i j. within (nOf h) i & (within (mOf h) j & isMarked (getD holds i 0) (j - 1));
-  barred = λ i j. within (nOf h) i & (within (mOf h) j & isMarked (getD bars i 0) (j - 1));
+  held = rowPairs (nOf h) (mOf h) holds;
+  barred = rowPairs (nOf h) (mOf h) bars;
 }
 
 -- the order rows are long enough and mark depots of 1 to m only

@@ -1,15 +1,18 @@
 // Which reason fits a pair now, read off the tables and the rows of struck places.
 ghost use mathlib.Core.Path.{_≡_};
-ghost use mathlib.Core.Bool.{false};
+ghost use mathlib.Core.Bool.{true, false, not};
 ghost use mathlib.Core.Option.{none};
-ghost use Prim.Native.Nat.{ℕ, _+_, _-_, _≤_, _<_};
+ghost use Prim.Native.Nat.{ℕ, _+_, _-_, _*_, _≤_, _<_};
 ghost use lib.ListN.{length, getD};
-ghost use lib.Dec.{leb};
+ghost use lib.Dec.{leb, ltb, eqb};
 ghost use Rattle.meaning.specs.Numbers.{In, bit};
 ghost use Rattle.meaning.specs.Lists.{place};
 ghost use Rattle.meaning.specs.Solver.{lowest};
 ghost use Rattle.ranks.specs.View.{nOf, mOf, rankingOf, postsOf, FullTables, Names};
-ghost use Rattle.reasons.specs.Rows.{OrderRows};
+ghost use Rattle.ranks.specs.View.{wishesOf};
+ghost use Rattle.reasons.specs.Rows.{OrderRows, startRow};
+ghost use Rattle.reasons.specs.Orders.{FullOrders, Noted, markFor, traineeIn, depotIn};
+ghost use Rattle.tables.specs.Cells.{orderStart};
 ghost use Rattle.reasons.specs.Scans.{countIn, leastIn, smallerIf};
 ghost use Rattle.reasons.specs.Reasons.{settled, settledBy, aboveOf, numberOr, choiceIn};
 ghost use Rattle.reasons.specs.Answers.{choiceOf};
@@ -151,4 +154,93 @@ pub fn choose(
         return Choice::Because(Reason::HeldElsewhere((at + 1) as u16));
     }
     crowded(heads, entries, rows, i, j)
+}
+
+// Whether the depot at place p of a list doesn't rank trainee i.
+fn is_stranger(heads: &[u16], entries: &[u16], wishes: &[u16], p: usize, i: usize) -> bool
+    requires { ⌜ FullTables (now heads) (now entries) × Names (mOf (now heads)) (now wishes) × (p < length (now wishes)) ⌝ }
+    ensures { λ r. ⌜ r ≡ not (ltb 0 (place (rankingOf (now (heads .entry)) (now (entries .entry)) (getD (now (wishes .entry)) p 0)) i)) ⌝ }
+{
+    let ranking = ranks::depot_part(heads, entries, tables::entry_of(wishes, p));
+    ranks::place_on(ranking, i) == 0
+}
+
+// The row of trainee i before the first strike: what is past the list's end or not mutual is marked from the start.
+fn start_row(heads: &[u16], entries: &[u16], i: usize) -> u64
+    requires { ⌜ FullTables (now heads) (now entries) × In (nOf (now heads)) i ⌝ }
+    ensures { λ r. ⌜ r ≡ startRow (now (heads .entry)) (now (entries .entry)) i ⌝ }
+{
+    let wishes = ranks::trainee_part(heads, entries, i);
+    let len = wishes.len();
+    let mut row = rows::past_end(len);
+    let mut p: usize = 0;
+    while p < len {
+        let shut = is_stranger(heads, entries, wishes, p, i);
+        row = rows::mark_if(row, p, shut);
+        p += 1;
+    }
+    row
+}
+
+// The rows of all trainees before the first strike.
+pub fn start_rows(heads: &[u16], entries: &[u16], rows: &mut [u64])
+    requires { ⌜ FullTables (now heads) (now entries) × (nOf (now heads) < length (now rows)) ⌝ }
+    ensures { λ _. ⌜ ((k : ℕ) → In (nOf (now (heads .entry))) k → getD (now (rows .exit)) k 0 ≡ startRow (now (heads .entry)) (now (entries .entry)) k) ⌝ }
+{
+    let n = tables::trainees_of(heads);
+    let mut i: usize = 1;
+    while i <= n {
+        rows[i] = start_row(heads, entries, i);
+        i += 1;
+    }
+}
+
+// Marks the pair (i, j) in the rows of one kind of orders.
+fn mark_pair(rows: &mut [u64], i: usize, j: usize)
+    requires { ⌜ (1 ≤ j) × (j ≤ 64) × (i < length (now rows)) ⌝ }
+    ensures { λ _. ⌜ now (rows .exit) ≡ markFor true (now (rows .entry)) i j ⌝ }
+{
+    rows::mark(rows, i, j - 1);
+}
+
+// Marks the pair of the order at k in the rows of its kind.
+fn note_order(
+    heads: &[u16],
+    entries: &[u16],
+    orders: &[u16],
+    k: usize,
+    holds: &mut [u64],
+    bars: &mut [u64],
+)
+    requires { ⌜ FullTables (now heads) (now entries) × FullOrders (now heads) (now orders) × (k < getD (now orders) 0 0) × (k ≤ 65535) × OrderRows (now heads) (now holds) (now bars) ⌝ }
+    ensures { λ _. ⌜ (now (holds .exit) ≡ markFor (eqb (getD (now (orders .entry)) (orderStart k) 0) 0) (now (holds .entry)) (traineeIn (now (orders .entry)) k) (depotIn (now (orders .entry)) k))
+        × (now (bars .exit) ≡ markFor (not (eqb (getD (now (orders .entry)) (orderStart k) 0) 0)) (now (bars .entry)) (traineeIn (now (orders .entry)) k) (depotIn (now (orders .entry)) k)) ⌝ }
+{
+    let at = tables::order_at(k);
+    let i = tables::order_trainee(orders, at);
+    let j = tables::order_depot(orders, at);
+    if tables::order_kind(orders, at) == 0 {
+        mark_pair(holds, i, j);
+    } else {
+        mark_pair(bars, i, j);
+    }
+}
+
+// Gathers, once, what is held and barred for each trainee.
+pub fn note_orders(
+    heads: &[u16],
+    entries: &[u16],
+    orders: &[u16],
+    holds: &mut [u64],
+    bars: &mut [u64],
+)
+    requires { ⌜ FullTables (now heads) (now entries) × FullOrders (now heads) (now orders) × Noted (now heads) (now orders) 0 (now holds) (now bars) ⌝ }
+    ensures { λ _. ⌜ Noted (now (heads .entry)) (now (orders .entry)) (getD (now (orders .entry)) 0 0) (now (holds .exit)) (now (bars .exit)) ⌝ }
+{
+    let count = tables::orders_of(orders);
+    let mut k: usize = 0;
+    while k < count {
+        note_order(heads, entries, orders, k, holds, bars);
+        k += 1;
+    }
 }
