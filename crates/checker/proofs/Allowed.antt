@@ -22,7 +22,7 @@ use Rattle.tables.proofs.Tests.{in-within}
 use Rattle.ranks.specs.View.{nOf, mOf, wishesOf, rankingOf, marketOf, FullTables}
 use Rattle.ranks.proofs.Places.{place-le, at-place}
 use Rattle.ranks.proofs.Tables.{ranged-tables}
-use Rattle.reasons.specs.Rows.{RowsHold, standingOf, OrderRows}
+use Rattle.reasons.specs.Rows.{RowsHold, rowPairs, standingOf, OrderRows}
 use Rattle.reasons.proofs.Settled.{left-at, marked-at}
 use Rattle.reasons.proofs.Choosing.{gone-same, passed-test, barred-same}
 use Rattle.meaning.specs.declared.Reason.{Reason}
@@ -69,7 +69,7 @@ module _ (h e : List ℕ) (ft : FullTables h e) (S : Struck) (rows : List ℕ) (
     ranked-there t = left-pair (marketOf h e) S i j t .ranked
 
     elsewhere : (k : ℕ) → (ordered (mOf h) (getD holds i 0) k & not (eqb k j)) ≡ fits (marketOf h e) (standingOf h holds bars) S i j (HeldElsewhere k)
-    unfolding fits standingOf ordered _&_
+    unfolding fits standingOf rowPairs ordered _&_
     elsewhere k = rw (in-within _ _ ri)
 
     -- of a pair that is left, a reason fits the rows exactly if it fits the struck set
