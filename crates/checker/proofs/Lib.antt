@@ -3,3 +3,4 @@
 pub mod Ways
 pub mod Allowed
 pub mod Replaying
+pub mod Loops

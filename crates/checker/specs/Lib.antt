@@ -1,3 +1,4 @@
 -- What the checker reads off tables and rows.
 pub mod Step
 pub mod Turns
+pub mod Ends

@@ -1,17 +1,21 @@
 // The checker of a ruling in plain cells: its strikes are replayed on rows of struck places, then the ending is tried.
 ghost use mathlib.Core.Path.{_≡_};
 ghost use Prim.Native.Nat.{ℕ, _+_, _-_, _*_, _≤_, _<_};
-ghost use lib.ListN.{length, getD};
+ghost use lib.ListN.{length, getD, take};
 ghost use lib.Dec.{leb, eqb, ltb};
 ghost use mathlib.Core.Bool.{not};
-ghost use Rattle.meaning.specs.Numbers.{In, _&_};
+ghost use Rattle.meaning.specs.Numbers.{In, _&_, count};
 ghost use Rattle.meaning.specs.Lists.{place};
-ghost use Rattle.ranks.specs.View.{nOf, mOf, postsOf, FullTables};
+ghost use Rattle.meaning.specs.Market.{placed};
+ghost use Rattle.meaning.specs.Endings.{tableOf, within?, stable?, sameCells};
+ghost use Rattle.ranks.specs.View.{nOf, mOf, postsOf, marketOf, FullTables};
 ghost use Rattle.reasons.specs.Rows.{OrderRows};
 ghost use Rattle.reasons.specs.Scans.{countIn};
 ghost use Rattle.reasons.specs.Reasons.{settled, aboveOf};
 ghost use Rattle.checker.specs.Step.{openAt, ordered, fitsIn, mayStrike, rowsWith};
+ghost use Rattle.checker.specs.Ends.{leftCell, leftCells, obeysRows, allObey, placedIn, brokenIn, roomAt, roomIn, endsIn};
 ghost use Rattle.checker.specs.Turns.{TraineesIn, rowsAfter, Going, ReplaySays};
+use meaning::Ending;
 use meaning::Reason;
 use meaning::Strike;
 
@@ -193,4 +197,151 @@ fn replay(
         k += 1;
     }
     Replayed::AllAllowed
+}
+
+// The depot at the first place left of trainee i's list, 0 where none is left.
+fn left_cell(heads: &[u16], entries: &[u16], rows: &[u64], i: usize) -> u16
+    requires { ⌜ FullTables (now heads) (now entries) × In (nOf (now heads)) i × (nOf (now heads) < length (now rows)) ⌝ }
+    ensures { λ r. ⌜ r ≡ leftCell (now (heads .entry)) (now (entries .entry)) (now (rows .entry)) i ⌝ }
+{
+    let wishes = ranks::trainee_part(heads, entries, i);
+    let p = rows::first_left(rows[i]);
+    if p < wishes.len() { wishes[p] } else { 0 }
+}
+
+// The left table, in the front of an array.
+fn left_table(heads: &[u16], entries: &[u16], rows: &[u64]) -> [u16; 256]
+    requires { ⌜ FullTables (now heads) (now entries) × (nOf (now heads) < length (now rows)) ⌝ }
+    ensures { λ r. ⌜ take (nOf (now (heads .entry))) r ≡ leftCells (now (heads .entry)) (now (entries .entry)) (now (rows .entry)) (nOf (now (heads .entry))) ⌝ }
+{
+    let n = tables::trainees_of(heads);
+    let mut left: [u16; 256] = [0; 256];
+    let mut k: usize = 0;
+    while k < n {
+        left[k] = left_cell(heads, entries, rows, k + 1);
+        k += 1;
+    }
+    left
+}
+
+// Whether two tables of one length have the same cells.
+fn same_cells(a: &[u16], b: &[u16]) -> bool
+    requires { ⌜ length (now a) ≡ length (now b) ⌝ }
+    ensures { λ r. ⌜ r ≡ sameCells (now (a .entry)) (now (b .entry)) ⌝ }
+{
+    let mut k: usize = 0;
+    while k < a.len() {
+        if a[k] != b[k] {
+            return false;
+        }
+        k += 1;
+    }
+    true
+}
+
+// How many trainees a table gives depot j.
+fn placed_at(cells: &[u16], j: usize) -> usize
+    requires { ⌜ length (now cells) ≤ 256 ⌝ }
+    ensures { λ r. ⌜ r ≡ count (length (now (cells .entry))) (λ k. eqb (tableOf (now (cells .entry)) k) j) ⌝ }
+{
+    let mut c: usize = 0;
+    let mut k: usize = 0;
+    while k < cells.len() {
+        c = reasons::counted(tables::entry_of(cells, k) == j, c);
+        k += 1;
+    }
+    c
+}
+
+// Whether a table gives no depot more trainees than posts.
+fn within_posts(heads: &[u16], entries: &[u16], cells: &[u16]) -> bool
+    requires { ⌜ FullTables (now heads) (now entries) × (length (now cells) ≡ nOf (now heads)) ⌝ }
+    ensures { λ r. ⌜ r ≡ within? (marketOf (now (heads .entry)) (now (entries .entry))) (tableOf (now (cells .entry))) ⌝ }
+{
+    let m = tables::depots_of(heads);
+    let mut k: usize = 0;
+    while k < m {
+        if ranks::posts_at(heads, entries, k + 1) < placed_at(cells, k + 1) {
+            return false;
+        }
+        k += 1;
+    }
+    true
+}
+
+// Whether a trainee at depot c, 0 for none, is wherever they are held and nowhere from where they are barred.
+fn obeys_rows(held: u64, barred: u64, c: usize) -> bool
+    requires { ⌜ c ≤ 64 ⌝ }
+    ensures { λ r. ⌜ r ≡ obeysRows held barred c ⌝ }
+{
+    if c == 0 {
+        return rows::first_left(rows::turn(held)) == 64;
+    }
+    let place = c - 1;
+    if rows::marked(barred, place) {
+        return false;
+    }
+    rows::first_left(rows::with_mark(rows::turn(held), place)) == 64
+}
+
+// Whether a table has every held pair and no barred one.
+fn all_obey(holds: &[u64], bars: &[u64], cells: &[u16]) -> bool
+    requires { ⌜ (length (now cells) < length (now holds)) × (length (now cells) < length (now bars)) × ((k : ℕ) → k < length (now cells) → getD (now cells) k 0 ≤ 64) ⌝ }
+    ensures { λ r. ⌜ r ≡ allObey (length (now (cells .entry))) (now (holds .entry)) (now (bars .entry)) (now (cells .entry)) ⌝ }
+{
+    let mut k: usize = 0;
+    while k < cells.len() {
+        let i = k + 1;
+        if !obeys_rows(holds[i], bars[i], tables::entry_of(cells, k)) {
+            return false;
+        }
+        k = i;
+    }
+    true
+}
+
+// Kind 1: the named pair is held, and is struck or not mutual.
+fn held_broken(
+    heads: &[u16],
+    entries: &[u16],
+    holds: &[u64],
+    rows: &[u64],
+    i: usize,
+    j: usize,
+) -> bool
+    requires { ⌜ FullTables (now heads) (now entries) × (nOf (now heads) < length (now holds)) × In (nOf (now heads)) i × (nOf (now heads) < length (now rows)) ⌝ }
+    ensures { λ r. ⌜ r ≡ brokenIn (now (heads .entry)) (now (entries .entry)) (now (holds .entry)) (now (rows .entry)) i j ⌝ }
+{
+    if !marks_depot(holds[i], tables::depots_of(heads), j) {
+        return false;
+    }
+    !is_open(heads, entries, rows, i, j)
+}
+
+// Whether the named pair is mutual, everything of the trainee down to the depot is struck, and a table leaves room there.
+fn room_at(heads: &[u16], entries: &[u16], rows: &[u64], cells: &[u16], i: usize, j: usize) -> bool
+    requires { ⌜ FullTables (now heads) (now entries) × In (nOf (now heads)) i × (nOf (now heads) < length (now rows)) × (length (now cells) ≡ nOf (now heads)) ⌝ }
+    ensures { λ r. ⌜ r ≡ roomAt (now (heads .entry)) (now (entries .entry)) (now (rows .entry)) (now (cells .entry)) i j ⌝ }
+{
+    if !ranks::is_mutual(heads, entries, i, j) {
+        return false;
+    }
+    if reasons::settled_with(heads, entries, rows, j, i) < 2 {
+        return false;
+    }
+    placed_at(cells, j) < ranks::posts_at(heads, entries, j)
+}
+
+// Kind 2: the left table exceeds no posts, and the named pair meets room in it.
+fn room_left(heads: &[u16], entries: &[u16], rows: &[u64], i: usize, j: usize) -> bool
+    requires { ⌜ FullTables (now heads) (now entries) × In (nOf (now heads)) i × (nOf (now heads) < length (now rows)) ⌝ }
+    ensures { λ r. ⌜ r ≡ roomIn (now (heads .entry)) (now (entries .entry)) (now (rows .entry)) i j ⌝ }
+{
+    let n = tables::trainees_of(heads);
+    let left = left_table(heads, entries, rows);
+    let cells = &left[0..n];
+    if !within_posts(heads, entries, cells) {
+        return false;
+    }
+    room_at(heads, entries, rows, cells, i, j)
 }
