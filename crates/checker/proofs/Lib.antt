@@ -4,3 +4,4 @@ pub mod Ways
 pub mod Allowed
 pub mod Replaying
 pub mod Loops
+pub mod Joined

@@ -5,7 +5,7 @@ use mathlib.Core.Bool.{Bool, not}
 use mathlib.Core.List.{List, [], _∷_, _++_}
 use lib.ListN.{getD, take}
 use lib.Dec.{ltb, eqb}
-use Rattle.meaning.specs.Numbers.{_&_, imp, all}
+use Rattle.meaning.specs.Numbers.{In, _&_, imp, all}
 use Rattle.meaning.specs.Market.{mutual?, placed}
 use Rattle.meaning.specs.Endings.{Outcome, placed-by, none-held, none-room, tableOf, within?, stable?, sameCells}
 use Rattle.meaning.specs.declared.Ending.{Ending}
@@ -60,6 +60,12 @@ unfoldable pub endsIn : List ℕ → List ℕ → List ℕ → List ℕ → List
 endsIn h e holds bars rows Placed table = placedIn h e holds bars rows table
 endsIn h e holds bars rows (NoneHeld i j) table = brokenIn h e holds rows i j
 endsIn h e holds bars rows (NoneRoom i j) table = roomIn h e rows i j
+
+-- the trainee whom an ending names is one of 1 to n
+abbrev pub NamesTrainee : ℕ → Ending → Type 0
+NamesTrainee n Placed = Unit {0}
+NamesTrainee n (NoneHeld i j) = In n i
+NamesTrainee n (NoneRoom i j) = In n i
 
 -- ---- the outcome of an ending beside its table; without a table none of its cells is used
 

@@ -1,4 +1,4 @@
--- The laws that both round trips rest on.
+-- The laws that both round trips rest on, and those that the leaves are proved by.
 pub mod Digits
 pub mod Steps
 pub mod Words

@@ -16,7 +16,7 @@ use borrow.Author.Tests.{eqb-true, eqb-false, le-leb, lt-leb, eq-eqb, ne-eqb}
 use Rattle.meaning.specs.Numbers.{_&_}
 use Rattle.fields.specs.Bytes.{stop?, wordOf, restOf, same}
 use Rattle.fields.specs.Number.{digit?, value, leads, numberOf}
-use Rattle.fields.specs.Reader.{got, refusal, first, field, lineEnd, keyword, figure, number, running, unless}
+use Rattle.fields.specs.Reader.{got, refusal, first, field, lineEnd, keyword, figure, number, running, numbered, unless}
 use Rattle.fields.specs.Leaves.{numOf}
 use Rattle.fields.specs.declared.Num.the-variants.{Value, Not}
 use Rattle.meaning.proofs.Booleans.{true-or-false}
@@ -271,3 +271,12 @@ module _ (s w : List ℕ) (at to : ℕ) (h : at ≤ length s) (t : to ≡ at + l
   pub keyword-not : same (slice at to s) w ≡ false → keyword w (drop at s) ≡ refusal 3 0 1
   unfolding keyword first
   keyword-not e = rw (word-slice s at to h t, rest-drop s at to t) (unless-not 3 1 (same (slice at to s) w) (drop to s) e)
+
+module _ (w : List ℕ) (i : ℕ) (q : List ℕ) where
+  pub numbered-no-word : keyword w q ≡ refusal 3 0 1 → numbered w i q ≡ refusal 3 0 1
+  unfolding numbered
+  numbered-no-word e = rw e
+
+  pub numbered-running : {r : List ℕ} → keyword w q ≡ got tt r → numbered w i q ≡ running 2 i r
+  unfolding numbered
+  numbered-running e = rw e

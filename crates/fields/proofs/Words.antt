@@ -12,7 +12,7 @@ use Rattle.meaning.specs.Numbers.{_&_}
 use Rattle.meaning.specs.Lists.{Each, each-none, each-more}
 use Rattle.fields.specs.Bytes.{TAB, LF, stop?, wordOf, restOf, same}
 use Rattle.fields.specs.Number.{digits, digitsOf, numberOf}
-use Rattle.fields.specs.Reader.{got, first, field, lineEnd, keyword, figure, number, running, unless}
+use Rattle.fields.specs.Reader.{got, first, field, lineEnd, keyword, figure, number, running, numbered, unless}
 use Rattle.fields.specs.Writer.{writeNumber}
 use Rattle.meaning.proofs.Booleans.{true-or-false, and-left, and-right, and-intro}
 use Rattle.fields.proofs.Digits.{one-or-more, digits-small, digits-large, digits-read, read-digits}
@@ -178,3 +178,13 @@ running-back k v s h =
     let b = went (figure k s) _ h in
     let u = unless-back 3 k (eqb (b .value) v) (b .rest) (b .on) in
     figure-back k s (b .here) ∙ ap₂ (λ x y. writeNumber x ++ y) (eqb-true (b .value) v (u .0)) (u .1)
+
+pub numbered-there : (w : List ℕ) (i : ℕ) (r : List ℕ) → Word w → i < 100000 → stops r ≡ true → numbered w i (w ++ (writeNumber i ++ r)) ≡ got tt r
+unfolding numbered
+numbered-there w i r f h t = rw (keyword-there w (writeNumber i ++ r) f (number-stops i r)) (running-there 2 i r h t)
+
+pub numbered-back : (w : List ℕ) (i : ℕ) (s : List ℕ) {t : Unit {0}} {r : List ℕ} → numbered w i s ≡ got t r → s ≡ w ++ (writeNumber i ++ r)
+unfolding numbered
+numbered-back w i s h =
+    let a = went (keyword w s) _ h in
+    keyword-back w s (a .here) ∙ ap (λ x. w ++ x) (running-back 2 i (a .rest) (a .on))

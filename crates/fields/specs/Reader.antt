@@ -100,6 +100,10 @@ running k v = do
   u ← figure k
   unless 3 k (eqb u v)
 
+-- the word and the running number that a line begins with
+unfoldable pub numbered : List ℕ → ℕ → Reader (Unit {0})
+numbered w i = keyword w >> running 2 i
+
 -- ---- lines of one kind
 
 -- c lines of the numbers i, i + 1, .. after those read, xs; `one` reads a line given its number and the total of the lines above,

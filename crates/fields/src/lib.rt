@@ -7,14 +7,19 @@ ghost use lib.ListN.{length, drop};
 ghost use lib.Seq.{slice};
 ghost use Rattle.fields.specs.Bytes.{wordOf, same};
 ghost use Rattle.fields.specs.Number.{value, numberOf, digitsOf};
-ghost use Rattle.fields.specs.Reader.{running, lineEnd};
 ghost use Rattle.fields.specs.Writer.{writeNumber};
-ghost use Rattle.fields.specs.Leaves.{numOf, FigureRead, NumberRead, FoundRead, KeywordRead, Put};
+ghost use Rattle.fields.specs.Leaves.{numOf, FieldRead, FigureRead, NumberRead, RunningRead, EndRead, KeywordRead, NumberedRead, Put};
 
 // A word as a number.
 pub enum Num {
     Value(u32),
     Not,
+}
+
+// The word of a field: where it starts and where it stopped.
+pub enum Field {
+    Word(usize, usize),
+    Missing,
 }
 
 // A number in a field, and where it stopped.
@@ -33,6 +38,12 @@ pub enum Ranged {
 pub enum Found {
     To(usize),
     Wrong,
+}
+
+// The word and the running number of a line, and where they stopped; or the field that is wrong.
+pub enum Numbered {
+    To(usize),
+    Wrong(usize),
 }
 
 // Where the word ends that starts at `at`.
@@ -94,23 +105,35 @@ pub fn number_in(s: &[u8], from: usize, to: usize) -> Num
     value_in(s, from, to)
 }
 
+// The field at `at`.
+pub fn field_at(s: &[u8], at: usize) -> Field
+    requires { ⌜ at ≤ length (now s) ⌝ }
+    ensures { λ r. ⌜ FieldRead (now (s .entry)) at r ⌝ }
+{
+    if s.len() <= at {
+        return Field::Missing;
+    }
+    if s[at] != 9 {
+        return Field::Missing;
+    }
+    Field::Word(at + 1, word_end(s, at + 1))
+}
+
 // The number in the field at `at`.
 pub fn figure_at(s: &[u8], at: usize) -> Figure
     requires { ⌜ at ≤ length (now s) ⌝ }
     ensures { λ r. ⌜ FigureRead (now (s .entry)) at r ⌝ }
 {
-    if s.len() <= at {
-        return Figure::Wrong;
-    }
-    if s[at] != 9 {
-        return Figure::Wrong;
-    }
-    let from = at + 1;
-    let to = word_end(s, from);
-    let n = number_in(s, from, to);
-    match n {
-        Num::Value(v) => Figure::Is(v, to),
-        Num::Not => Figure::Wrong,
+    let w = field_at(s, at);
+    match w {
+        Field::Missing => Figure::Wrong,
+        Field::Word(from, to) => {
+            let n = number_in(s, from, to);
+            match n {
+                Num::Value(v) => Figure::Is(v, to),
+                Num::Not => Figure::Wrong,
+            }
+        }
     }
 }
 
@@ -137,7 +160,7 @@ pub fn number_at(s: &[u8], at: usize, lo: u16, hi: u16) -> Ranged
 // The number that the field at `at` has to hold: an edition, a running number.
 pub fn running_at(s: &[u8], at: usize, v: u16) -> Found
     requires { ⌜ at ≤ length (now s) ⌝ }
-    ensures { λ r. ⌜ FoundRead (now (s .entry)) (λ k. running k v (drop at (now (s .entry)))) r ⌝ }
+    ensures { λ r. ⌜ RunningRead (now (s .entry)) at v r ⌝ }
 {
     let f = figure_at(s, at);
     match f {
@@ -154,7 +177,7 @@ pub fn running_at(s: &[u8], at: usize, v: u16) -> Found
 // The end of a line at `at`.
 pub fn line_end_at(s: &[u8], at: usize) -> Found
     requires { ⌜ at ≤ length (now s) ⌝ }
-    ensures { λ r. ⌜ FoundRead (now (s .entry)) (λ k. lineEnd k (drop at (now (s .entry)))) r ⌝ }
+    ensures { λ r. ⌜ EndRead (now (s .entry)) at r ⌝ }
 {
     if s.len() <= at {
         return Found::Wrong;
@@ -193,6 +216,24 @@ pub fn keyword_at(s: &[u8], at: usize, w: &[u8]) -> Found
         Found::To(to)
     } else {
         Found::Wrong
+    }
+}
+
+// The word w and the running number i at the beginning of a line.
+pub fn numbered_at(s: &[u8], at: usize, w: &[u8], i: u16) -> Numbered
+    requires { ⌜ at ≤ length (now s) ⌝ }
+    ensures { λ r. ⌜ NumberedRead (now (s .entry)) at (now (w .entry)) i r ⌝ }
+{
+    let k = keyword_at(s, at, w);
+    match k {
+        Found::Wrong => Numbered::Wrong(1),
+        Found::To(p) => {
+            let f = running_at(s, p, i);
+            match f {
+                Found::Wrong => Numbered::Wrong(2),
+                Found::To(next) => Numbered::To(next),
+            }
+        }
     }
 }
 

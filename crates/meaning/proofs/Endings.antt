@@ -2,7 +2,7 @@
 -- and once nothing may be struck any more there always is one.
 -- Assumes nothing.
 use Prim.Native.Nat.{ℕ, zero, suc, _+_, _≤_, _<_}
-use mathlib.Core.Path.{_≡_, refl, ap, subst}
+use mathlib.Core.Path.{_≡_, refl, sym, ap, subst}
 use mathlib.Core.Logic.{⊎-elim}
 use mathlib.Core.Bool.{Bool, true, false, not, false≢true}
 use mathlib.Core.Option.{Option, none, some}
@@ -13,17 +13,18 @@ use borrow.Author.Tests.{ltb-true, lt-ltb, eqb-true, eq-eqb, not-true}
 use Rattle.meaning.specs.Numbers.{In}
 use Rattle.meaning.specs.Lists.{place, Each, each-none, each-more, some?}
 use Rattle.meaning.specs.Placement.{held, Order, depot}
-use Rattle.meaning.specs.Market.{Market, sameKind, names, standing, Lawful, Table, mutual?, Respecting}
+use Rattle.meaning.specs.Market.{Market, sameKind, names, standing, Lawful, Table, mutual?, Gains, free, better, spare, Respecting}
 use Rattle.meaning.specs.Strikes.{Struck, downStruck, Exhausted, left?, Left}
 use Rattle.meaning.specs.Endings.{Outcome, placed-by, none-held, none-room, tableOf, leftTable, leftOf, within?, respecting?, broken?, firstBroken, NoneRoom, room?, roomOr, roomFrom, noneRoom, placedOr, heldOr, outcomeOf, sameCells, outcomeFits}
 use Rattle.meaning.specs.Truth.{TrueOutcome, FirstBroken, FirstRoom, FirstNamed}
-use Rattle.meaning.proofs.Booleans.{true-or-false, never, and-left, and-right, and-intro, and-not, some-own, none-some}
+use Rattle.meaning.proofs.Booleans.{true-or-false, never, is-false, and-left, and-right, and-intro, and-not, some-own, none-some}
 use Rattle.meaning.proofs.Numbers.{last, order, same, Smallest, least, no-least, smallest-is}
-use Rattle.meaning.proofs.Lists.{here, Passes, some-use, some-here, some-later}
-use Rattle.meaning.proofs.Pairs.{mutual-is, is-mutual}
+use Rattle.meaning.proofs.Lists.{here, at, Passes, some-use, some-here, some-later}
+use Rattle.meaning.proofs.Pairs.{mutual-is, is-mutual, down-use}
 use Rattle.meaning.proofs.Sound.{Clear, left-sits, left-best, none-held-sound}
 use Rattle.meaning.proofs.Counting.{none-room-sound}
 use Rattle.meaning.proofs.Complete.{Fitting, respecting, room, HeldOpen, fitting}
+use Rattle.meaning.proofs.Full.{listed}
 use Rattle.meaning.proofs.Left.{left-pair, left-unstruck, left-table}
 use Rattle.meaning.proofs.Matchings.{within-is, is-within, names-kind, names-trainee, names-depot, names-own, respecting-is, is-respecting}
 
@@ -235,3 +236,83 @@ module _ (K : Market) (os : List Order) (lawful : Lawful K (standing os)) (lists
           last (respecting ok) = never (is-respecting K (lawful .ranged) os (leftOf K lists S) ok) t
           last (room i j w) = never (is-room i j w)
               (n (is-within K (leftOf K lists S) (w .within)) i j (lawful .ranged .trainee-in i j (w .pair .ranks)) (lawful .ranged .depot-in i j (w .pair .ranks)))
+
+-- ---- the ending once nothing may be struck any more: where a pair of kind 2 is there the table isn't respecting, and else it is
+
+module _ (K : Market) (os : List Order) (lawful : Lawful K (standing os)) (lists : ℕ → List ℕ)
+    (listed : (i j : ℕ) → K .trainee-rank i j ≡ place (lists i) j) (S : Struck) (done : Exhausted K (standing os) S) (unbroken-holds : firstBroken K S os ≡ none) where
+  the-left : Left K S (leftOf K lists S)
+  the-left = left-table K (lawful .ranged) lists listed S
+
+  all-unbroken : Each (λ o. broken? K S o ≡ false) os
+  all-unbroken = go (firstBroken K S os) (first-broken K S os) unbroken-holds
+    where
+      go : (b : Option Order) → Broken K S os b → b ≡ none → Each (λ o. broken? K S o ≡ false) os
+      go _ (broken-at o f n u) q = absurd (let z : _≡_ {A = ℕ} 0 1 = cc in omega arith)
+      go _ (unbroken h) q = h
+
+  all-held : HeldOpen K (standing os) S
+  unfolding standing
+  all-held = record {
+    pair = λ i j h. left-pair K S i j (unbroken-left K S os all-unbroken i j h);
+    unstruck = λ i j h. left-unstruck K S i j (unbroken-left K S os all-unbroken i j h);
+  }
+
+  fit : Fitting K (standing os) S (leftOf K lists S)
+  fit = fitting K (standing os) lawful S done (leftOf K lists S) the-left all-held
+
+  -- a respecting left table leaves no pair of kind 2: such a pair would block it
+  no-room-there : Respecting K (standing os) (leftOf K lists S) → (i j : ℕ) → room? K S (leftOf K lists S) i j ≡ true → ⊥
+  no-room-there ok i j t =
+      let w = room-is K os lawful lists listed S i j (is-within K (leftOf K lists S) (ok .stable .matching .within)) t in
+      ok .stable .unblocked i j (record { pair = w .pair; gains = gains i j w; takes = spare (w .room) })
+    where
+      gains : (i j : ℕ) → NoneRoom K S (leftOf K lists S) i j → Gains K (leftOf K lists S) i j
+      gains i j w =
+          let r = lawful .ranged .trainee-in i j (w .pair .ranks) in
+          ⊎-elim
+          (λ (z : leftOf K lists S i ≤ 0). free (omega arith))
+          (λ (l : 0 < leftOf K lists S i). ⊎-elim
+          (λ (u : K .trainee-rank i (leftOf K lists S i) ≤ K .trainee-rank i j). absurd
+          (never (down-use K (lawful .ranged) S i j (leftOf K lists S i) (w .down) (the-left .pairs i r l) u) (the-left .unstruck i r l)))
+          (λ (u : K .trainee-rank i j < K .trainee-rank i (leftOf K lists S i)). better u)
+          (order (K .trainee-rank i (leftOf K lists S i)) (K .trainee-rank i j)))
+          (order (leftOf K lists S i) 0)
+
+  -- which outcome it is, by the view of the ending
+  pub exhausted-room : (i j : ℕ) → roomFrom K S (leftOf K lists S) (K .m) 1 ≡ some (none-room i j) → outcomeOf K lists os S ≡ some (none-room i j)
+  unfolding outcomeOf heldOr placedOr noneRoom
+  exhausted-room i j h = rw unbroken-holds (go fit)
+    where
+      there : room? K S (leftOf K lists S) i j ≡ true
+      there = at (roomFrom K S (leftOf K lists S) (K .m) 1) (room-from K S (leftOf K lists S) (K .m) 1) h
+        where
+          at : (o : Option Outcome) → Room K S (leftOf K lists S) (K .m) 1 o → o ≡ some (none-room i j) → room? K S (leftOf K lists S) i j ≡ true
+          at _ (room-at i′ j′ r l u t h₁ h₂) q =
+              let a : i′ ≡ i = cc in
+              let b : j′ ≡ j = cc in
+              subst (λ y. room? K S (leftOf K lists S) i y ≡ true) b (subst (λ x. room? K S (leftOf K lists S) x j′ ≡ true) a t)
+          at _ (no-room g) q = none-some q
+
+      go : Fitting K (standing os) S (leftOf K lists S) → placedOr (respecting? K os (leftOf K lists S)) (leftTable K lists S)
+          (elim (within? K (leftOf K lists S)) [ true ↦ roomFrom K S (leftOf K lists S) (K .m) 1 | false ↦ none ]) ≡ some (none-room i j)
+      go (respecting ok) = absurd (no-room-there ok i j there)
+      go (room i′ j′ w) =
+          let f : respecting? K os (leftOf K lists S) ≡ false = is-false _ (λ t. no-room-there (respecting-is K (lawful .ranged) os (leftOf K lists S) t) i j there) in
+          rw (f, is-within K (leftOf K lists S) (w .within)) h
+
+  pub exhausted-placed : roomFrom K S (leftOf K lists S) (K .m) 1 ≡ none → outcomeOf K lists os S ≡ some (placed-by (leftTable K lists S))
+  unfolding outcomeOf heldOr placedOr
+  exhausted-placed h = rw (unbroken-holds, is-respecting K (lawful .ranged) os (leftOf K lists S) (ok fit))
+    where
+      nowhere-room : (i j : ℕ) → In (K .n) i → In (K .m) j → room? K S (leftOf K lists S) i j ≡ false
+      nowhere-room i j r r′ = at (roomFrom K S (leftOf K lists S) (K .m) 1) (room-from K S (leftOf K lists S) (K .m) 1) h
+        where
+          at : (o : Option Outcome) → Room K S (leftOf K lists S) (K .m) 1 o → o ≡ none → room? K S (leftOf K lists S) i j ≡ false
+          at _ (room-at i′ j′ _ l u t h₁ h₂) q = none-some (sym q)
+          at _ (no-room g) q = g i j r (r′ .low) (omega (arith, r′ .high))
+
+      ok : Fitting K (standing os) S (leftOf K lists S) → Respecting K (standing os) (leftOf K lists S)
+      ok (respecting x) = x
+      ok (room i j w) = absurd (never (is-room K os lawful lists listed S i j w)
+          (nowhere-room i j (lawful .ranged .trainee-in i j (w .pair .ranks)) (lawful .ranged .depot-in i j (w .pair .ranks))))

@@ -21,7 +21,7 @@ use Rattle.meaning.proofs.Pairs.{mutual-is}
 use Rattle.meaning.proofs.Sound.{Clear, strike-sound}
 use Rattle.meaning.proofs.Full.{LegalFull, LegalOrders, lawful-market, listed}
 use Rattle.meaning.proofs.Records.{record-clear, allowed-pair, record-length, same-struck}
-use Rattle.meaning.proofs.Sweeping.{Does, nothing-there, does, sweeps-inv, sweeps-still, sweeps-same}
+use Rattle.meaning.proofs.Sweeping.{Does, nothing-there, does, rows-inv, rows-grow, rows-same, sweeps-inv, sweeps-still, sweeps-same}
 use Rattle.meaning.proofs.Visits.{Visited, kept, made, visited, lowest-record}
 use Rattle.meaning.proofs.Endings.{first-named, outcome-fits, fits-true, always-ends}
 use Rattle.meaning.specs.declared.Reason.{Reason}
@@ -38,7 +38,7 @@ module _ (K : Market) (O : Standing) (lawful : Lawful K O) (S₀ : Struck) (pair
   abbrev Idle : List Strike → ℕ → ℕ → Type 0
   Idle rec i j = (r : Reason) → allowed K O (struck S₀ rec) i j r ≡ false
 
-  keeps : (i j : ℕ) (rec : List Strike) → LowestRecord K O S₀ rec → LowestRecord K O S₀ (visit K O S₀ i j rec)
+  pub keeps : (i j : ℕ) (rec : List Strike) → LowestRecord K O S₀ rec → LowestRecord K O S₀ (visit K O S₀ i j rec)
   keeps i j rec g = go (visit K O S₀ i j rec) (visited K O lawful S₀ i j rec)
     where
       go : (v : List Strike) → Visited K O S₀ i j rec v → LowestRecord K O S₀ v
@@ -52,8 +52,18 @@ module _ (K : Market) (O : Standing) (lawful : Lawful K O) (S₀ : Struck) (pair
       go _ (kept h) = nothing-there h
       go _ (made r l w) = does _ (one-longer rec (record { trainee = i; depot = j; reason = r }))
 
-  bound : (rec : List Strike) → LowestRecord K O S₀ rec → length rec ≤ mutualPairs K
+  pub bound : (rec : List Strike) → LowestRecord K O S₀ rec → length rec ≤ mutualPairs K
   bound rec g = omega (arith, record-length K O lawful S₀ pairs₀ rec (lowest-record K O lawful S₀ rec g))
+
+  -- one sweep keeps the record, never shortens it, and leaves it as it is where it adds nothing
+  pub sweep-keeps : (rec : List Strike) → LowestRecord K O S₀ rec → LowestRecord K O S₀ (rowsBy (visit K O S₀) lists (K .n) 1 rec)
+  sweep-keeps rec g = rows-inv (visit K O S₀) length Idle (LowestRecord K O S₀) keeps does-there lists (K .n) 1 rec g
+
+  pub sweep-grows : (rec : List Strike) → LowestRecord K O S₀ rec → length rec ≤ length (rowsBy (visit K O S₀) lists (K .n) 1 rec)
+  sweep-grows rec g = rows-grow (visit K O S₀) length Idle (LowestRecord K O S₀) keeps does-there lists (K .n) 1 rec g
+
+  pub sweep-same : (rec : List Strike) → LowestRecord K O S₀ rec → length (rowsBy (visit K O S₀) lists (K .n) 1 rec) ≡ length rec → rowsBy (visit K O S₀) lists (K .n) 1 rec ≡ rec
+  sweep-same rec g h = rows-same (visit K O S₀) length Idle (LowestRecord K O S₀) keeps does-there lists (K .n) 1 rec g h
 
   -- the sweeps, from nothing on
   abbrev pub swept : List Strike

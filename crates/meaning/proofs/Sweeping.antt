@@ -49,12 +49,12 @@ module _ {A : Type 0} (f : ℕ → ℕ → A → A) (size : A → ℕ) (Idle : A
       go _ (does b l′) h l w = absurd (omega arith)
 
   module _ (lists : ℕ → List ℕ) where
-    rows-inv : (d i : ℕ) (a : A) → P a → P (rowsBy f lists d i a)
+    pub rows-inv : (d i : ℕ) (a : A) → P a → P (rowsBy f lists d i a)
     unfolding rowsBy
     rows-inv zero i a p = p
     rows-inv (suc d) i a p = rows-inv d (suc i) (rowBy f i (lists i) a) (row-inv i (lists i) a p)
 
-    rows-grow : (d i : ℕ) (a : A) → P a → size a ≤ size (rowsBy f lists d i a)
+    pub rows-grow : (d i : ℕ) (a : A) → P a → size a ≤ size (rowsBy f lists d i a)
     unfolding rowsBy
     rows-grow zero i a p = omega arith
     rows-grow (suc d) i a p = omega (arith, row-grows i (lists i) a p, rows-grow d (suc i) (rowBy f i (lists i) a) (row-inv i (lists i) a p))
@@ -69,7 +69,7 @@ module _ {A : Type 0} (f : ℕ → ℕ → A → A) (size : A → ℕ) (Idle : A
         (λ ne. rows-still d (suc i) a p (rw (w .0) at h) k (omega arith) (omega arith) j q)
         (same k i)
 
-    rows-same : (d i : ℕ) (a : A) → P a → size (rowsBy f lists d i a) ≡ size a → rowsBy f lists d i a ≡ a
+    pub rows-same : (d i : ℕ) (a : A) → P a → size (rowsBy f lists d i a) ≡ size a → rowsBy f lists d i a ≡ a
     unfolding rowsBy
     rows-same zero i a p h = refl
     rows-same (suc d) i a p h =

@@ -20,7 +20,7 @@ use Rattle.fields.proofs.Words.{Word, end-there, end-back, keyword-there, keywo
 use Rattle.fields.proofs.Lines.{lines-there, lines-back}
 use Rattle.placement_text.specs.Words.{word-placement}
 use Rattle.placement_text.specs.Writer.{writeTrainee, writeDepot, writeOrders, writeHead, writeEnd, aboveEnd, textOf}
-use Rattle.placement_text.specs.Reader.{MOST, traineeLine, depotLine, orders, Head, edition, headFields, body, placement, taken, outcome, readText}
+use Rattle.placement_text.specs.Reader.{MOST, traineeLine, depotLine, orders, Head, edition, sizes, headFields, body, placement, taken, outcome, readText}
 use Rattle.placement_text.proofs.Sides.{trainee-there, trainee-back, depot-there, depot-back}
 use Rattle.placement_text.proofs.Pairs.{orders-there, orders-back}
 use Rattle.placement_text.proofs.Short.{text-short}
@@ -33,7 +33,7 @@ placement-word =
     each-more refl (each-more refl (each-more refl (each-more refl (each-more refl (each-more refl (each-more refl (each-more refl (each-more refl each-none))))))))
 
 edition-there : (n m : ℕ) (r : List ℕ) → n ≤ 256 → m ≤ 64 → headFields (writeHead 1 n m ++ r) ≡ got (record { edition = 1; n = n; m = m }) r
-unfolding headFields edition writeHead
+unfolding headFields edition sizes writeHead
 edition-there n m r hn hm =
     let r₁ : List ℕ = writeNumber m ++ LF ∷ r in
     let r₂ : List ℕ = writeNumber n ++ r₁ in
@@ -58,7 +58,7 @@ record HeadRead (s r : List ℕ) (h : Head) : Type 0 where
   text : s ≡ writeHead (h .edition) (h .n) (h .m) ++ r
 
 head-back : (s : List ℕ) {h : Head} {r : List ℕ} → headFields s ≡ got h r → HeadRead s r h
-unfolding headFields edition writeHead
+unfolding headFields edition sizes writeHead
 head-back s {h} {r} e =
     let a = went (keyword word-placement s) _ e in
     let b = went (edition (a .rest)) _ (a .on) in

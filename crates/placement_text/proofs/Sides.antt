@@ -9,10 +9,10 @@ use lib.Dec.{lit<}
 use Rattle.meaning.specs.Lists.{each-none, each-more}
 use Rattle.meaning.specs.Placement.{Depot, LegalList, LegalPosts, no-posts, some-posts, LegalDepot, legal-depot, size, depotSize}
 use Rattle.fields.specs.Bytes.{LF, stop?}
-use Rattle.fields.specs.Reader.{got, keyword, running}
+use Rattle.fields.specs.Reader.{got, numbered}
 use Rattle.fields.specs.Writer.{writeNumber}
 use Rattle.fields.proofs.Steps.{went, got-value, got-rest, on-line}
-use Rattle.fields.proofs.Words.{Word, keyword-there, keyword-back, number-stops, running-there, running-back}
+use Rattle.fields.proofs.Words.{Word, numbered-there, numbered-back}
 use Rattle.fields.proofs.Lines.{Line}
 use Rattle.placement_text.specs.Words.{word-T, word-D}
 use Rattle.placement_text.specs.Writer.{writeReceived, writeList, writeTrainee, writeDepot}
@@ -32,8 +32,7 @@ unfolding traineeLine traineeFields writeTrainee
 trainee-there m hm i total l r hi g t =
     simp append-assoc
     (rw (
-      keyword-there word-T (writeNumber i ++ (writeList l ++ LF ∷ r)) T-word (number-stops i (writeList l ++ LF ∷ r)),
-      running-there 2 i (writeList l ++ LF ∷ r) (omega arith) (list-stops l (LF ∷ r)),
+      numbered-there word-T i (writeList l ++ LF ∷ r) T-word (omega arith) (list-stops l (LF ∷ r)),
       list-there 3 m total l r (omega arith) g t,
     ))
 
@@ -43,15 +42,14 @@ TraineeLine m = Line (traineeLine m) size writeTrainee (LegalList m) MOST
 pub trainee-fields : (m i total : ℕ) (s : List ℕ) {l : Option (List ℕ)} {r : List ℕ} → traineeFields m i total s ≡ got l r → TraineeLine m i total s l r
 unfolding traineeFields writeTrainee
 trainee-fields m i total s {l} {r} h =
-    let a = went (keyword word-T s) _ h in
-    let b = went (running 2 i (a .rest)) _ (a .on) in
-    let c = list-back 3 m total (b .rest) (b .on) in
+    let a = went (numbered word-T i s) _ h in
+    let c = list-back 3 m total (a .rest) (a .on) in
     record {
       legal = c .legal;
       fits = c .fits;
       text =
-          keyword-back word-T s (a .here)
-          ∙ ap (λ x. word-T ++ x) (running-back 2 i (a .rest) (b .here) ∙ ap (λ x. writeNumber i ++ x) (c .text))
+          numbered-back word-T i s (a .here)
+          ∙ ap (λ x. word-T ++ (writeNumber i ++ x)) (c .text)
           ∙ sym (simp append-assoc);
     }
 
@@ -80,8 +78,7 @@ depot-there n hn j total _ r hj (legal-depot {p = ps} {l = l} g e) t =
     let tail : List ℕ = writeList l ++ LF ∷ r in
     simp append-assoc
     (rw (
-      keyword-there word-D (writeNumber j ++ (writeReceived ps ++ tail)) D-word (number-stops j (writeReceived ps ++ tail)),
-      running-there 2 j (writeReceived ps ++ tail) (omega arith) (received-stops ps tail),
+      numbered-there word-D j (writeReceived ps ++ tail) D-word (omega arith) (received-stops ps tail),
       received-there 3 256 ps tail (posts-at-most ps g) (lit< tt) (list-stops l (LF ∷ r)),
       list-there 4 n total l r (omega arith) e t,
     ))
@@ -92,10 +89,9 @@ DepotLine n = Line (depotLine n) depotSize writeDepot (LegalDepot n) MOST
 pub depot-fields : (n j total : ℕ) (s : List ℕ) {d : Depot} {r : List ℕ} → depotFields n j total s ≡ got d r → DepotLine n j total s d r
 unfolding depotFields depotOf writeDepot depotSize
 depot-fields n j total s {d} {r} h =
-    let a = went (keyword word-D s) _ h in
-    let b = went (running 2 j (a .rest)) _ (a .on) in
-    let p = went (received 3 256 (b .rest)) _ (b .on) in
-    let q = received-back 3 256 (b .rest) (p .here) in
+    let a = went (numbered word-D j s) _ h in
+    let p = went (received 3 256 (a .rest)) _ (a .on) in
+    let q = received-back 3 256 (a .rest) (p .here) in
     let x = went (list 4 n total (p .rest)) _ (p .on) in
     let c = list-back 4 n total (p .rest) (x .here) in
     subst (λ z. DepotLine n j total s z r) (got-value (x .on))
@@ -103,10 +99,9 @@ depot-fields n j total s {d} {r} h =
       legal = legal-depot (at-most-posts (p .value) (q .legal)) (c .legal);
       fits = c .fits;
       text =
-          keyword-back word-D s (a .here)
-          ∙ ap (λ z. word-D ++ z)
-          (running-back 2 j (a .rest) (b .here)
-          ∙ ap (λ z. writeNumber j ++ z) (q .text ∙ ap (λ z. writeReceived (p .value) ++ z) (c .text ∙ ap (λ z. writeList (x .value) ++ LF ∷ z) (got-rest (x .on)))))
+          numbered-back word-D j s (a .here)
+          ∙ ap (λ z. word-D ++ (writeNumber j ++ z))
+          (q .text ∙ ap (λ z. writeReceived (p .value) ++ z) (c .text ∙ ap (λ z. writeList (x .value) ++ LF ∷ z) (got-rest (x .on))))
           ∙ sym (simp append-assoc);
     })
 

@@ -11,11 +11,11 @@ use Rattle.meaning.specs.Lists.{member}
 use Rattle.meaning.specs.Placement.{Kind, held, barred, Order, Depot, depot, Placement, size, depotSize}
 use Rattle.fields.specs.Bytes.{stop?, wordOf, restOf, same}
 use Rattle.fields.specs.Number.{digits, digitsOf, digit?, value, leads, numberOf}
-use Rattle.fields.specs.Reader.{unless, first, field, lineEnd, keyword, atEnd, formed, figure, number, running, lines}
+use Rattle.fields.specs.Reader.{unless, first, field, lineEnd, keyword, atEnd, formed, figure, number, running, numbered, lines}
 use Rattle.fields.specs.Writer.{writeNumber, writeLines}
 use Rattle.fields.specs.Shown.{shown}
 use Rattle.placement_text.specs.Writer.{orMark, writeReceived, writeEntries, writeList, writeTrainee}
-use Rattle.placement_text.specs.Reader.{orMissing, received, entry, entries, listed, list, traineeFields, traineeLine, depotOf, depotFields, depotLine, openingOf, orderFields, endFields, finish, orders, edition, headFields, body, placement, Read, taken, refused, outcome, readText}
+use Rattle.placement_text.specs.Reader.{orMissing, received, entry, entries, listed, list, traineeFields, traineeLine, depotOf, depotFields, depotLine, openingOf, orderFields, endFields, finish, orders, edition, sizes, headFields, body, placement, Read, taken, refused, outcome, readText}
 
 -- ---- small texts
 
@@ -108,7 +108,7 @@ wanted : Case → Read
 wanted (t gives r) = r
 
 read : List ℕ → Read
-unfolding _&_ member size depotSize stop? wordOf restOf same digit? value leads numberOf unless first field lineEnd keyword atEnd formed figure number running lines orMissing received entry entries listed list traineeFields traineeLine depotOf depotFields depotLine openingOf orderFields endFields finish orders edition headFields body placement outcome readText
+unfolding _&_ member size depotSize stop? wordOf restOf same digit? value leads numberOf unless first field lineEnd keyword atEnd formed figure number running numbered lines orMissing received entry entries listed list traineeFields traineeLine depotOf depotFields depotLine openingOf orderFields endFields finish orders edition sizes headFields body placement outcome readText
 read s = readText s
 
 small-texts : map (λ c. read (given c)) cases ≡ map wanted cases

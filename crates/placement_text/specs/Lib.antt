@@ -1,5 +1,6 @@
--- The placement text: how it is written and how it is read.
+-- The placement text: how it is written, how it is read, and what the answers of the reader's functions say.
 pub mod Words
 pub mod Writer
 pub mod Reader
+pub mod Code
 pub mod Examples

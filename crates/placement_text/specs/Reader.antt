@@ -10,7 +10,7 @@ use Rattle.meaning.specs.Lists.{member}
 use Rattle.meaning.specs.Placement.{Kind, held, barred, Order, Depot, depot, Placement, size, depotSize}
 use Rattle.fields.specs.Bytes.{wordOf, restOf, same, word-end}
 use Rattle.fields.specs.Number.{numberOf}
-use Rattle.fields.specs.Reader.{Step, got, refusal, Reader, next, _>>=_, _>>_, pure, unless, line, field, lineEnd, keyword, atEnd, formed, number, running, lines}
+use Rattle.fields.specs.Reader.{Step, got, refusal, Reader, next, _>>=_, _>>_, pure, unless, line, field, lineEnd, keyword, atEnd, formed, number, running, numbered, lines}
 use Rattle.placement_text.specs.Words.{word-placement, word-T, word-D, word-F, word-X, word-?}
 
 -- ---- a number that may not have been received
@@ -48,7 +48,7 @@ entries (suc c) k hi seen = do
 abbrev pub MOST : ℕ
 MOST = 4096
 
--- after the length
+-- what follows a length
 unfoldable pub listed : ℕ → ℕ → ℕ → Option ℕ → Reader (Option (List ℕ))
 listed k hi total none = lineEnd (k + 1) >> pure none
 listed k hi total (some c) = do
@@ -63,30 +63,28 @@ list k hi total = received k hi >>= listed k hi total
 
 -- ---- the lines of the trainees and of the depots
 
--- trainee i stands on the line i + 1
 unfoldable pub traineeFields : ℕ → ℕ → ℕ → Reader (Option (List ℕ))
 traineeFields m i total = do
-  keyword word-T
-  running 2 i
+  numbered word-T i
   list 3 m total
 
+-- trainee i stands on the line i + 1
 unfoldable pub traineeLine : ℕ → ℕ → ℕ → Reader (Option (List ℕ))
 traineeLine m i total = line (i + 1) (traineeFields m i total)
 
--- posts and list
+-- posts and list of a depot
 unfoldable pub depotOf : ℕ → ℕ → Reader Depot
 depotOf n total = do
   ps ← received 3 256
   l ← list 4 n total
   pure (depot ps l)
 
--- depot j stands on the line n + j + 1
 unfoldable pub depotFields : ℕ → ℕ → ℕ → Reader Depot
 depotFields n j total = do
-  keyword word-D
-  running 2 j
+  numbered word-D j
   depotOf n total
 
+-- depot j stands on the line n + j + 1
 unfoldable pub depotLine : ℕ → ℕ → ℕ → Reader Depot
 depotLine n j total = line (n + j + 1) (depotFields n j total)
 
@@ -147,14 +145,19 @@ pub record Head : Type 0 where
 unfoldable pub edition : Reader ℕ
 edition = running 2 1 >> pure 1
 
-unfoldable pub headFields : Reader Head
-headFields = do
-  keyword word-placement
-  e ← edition
+-- n and m
+unfoldable pub sizes : ℕ → Reader Head
+sizes e = do
   n ← number 3 0 256
   m ← number 4 0 64
   lineEnd 5
   pure (record { edition = e; n = n; m = m })
+
+unfoldable pub headFields : Reader Head
+headFields = do
+  keyword word-placement
+  e ← edition
+  sizes e
 
 unfoldable pub body : Head → Reader Placement
 body h = do

@@ -9,3 +9,4 @@ pub mod Seen
 pub mod Lines
 pub mod Receipts
 pub mod Views
+pub mod Examples

@@ -6,7 +6,7 @@ use mathlib.Core.Bool.{true}
 use mathlib.Core.Option.{Option, none, some}
 use mathlib.Core.List.{List, [], _∷_, _++_, append-assoc}
 use native.Mathlib.Omega.{arith}
-use lib.ListN.{length, getD, drop}
+use lib.ListN.{length, getD, drop, length-append}
 use lib.Seq.{drop-at, drop-append-seam}
 use lib.Dec.{leb, eqb}
 use borrow.Author.Tests.{leb-true, eqb-true, le-leb, eq-eqb}
@@ -175,6 +175,39 @@ few-orders-there : (n m : ℕ) (xs : List Order) (z : List ℕ) → Each (LegalO
 unfolding fewOrdersOf
 few-orders-there n m xs z a f = goes _ _ _ (orders-there n m xs z a) ∙ when-goes _ _ (le-leb _ _ f)
 
+-- ---- how many cells are used
+
+pub head-count : (p : Placement) → length (headCells p) ≡ 3 + 2 * length (p .trainees) + 3 * length (p .depots)
+unfolding headCells
+head-count p =
+    let x = series-cells size 2 traineeCells trainee-wide 0 (p .trainees) in
+    let y = series-cells depotSize 3 depotCells depot-wide (weigh size (p .trainees)) (p .depots) in
+    let z = length-append (seriesCells size traineeCells 0 (p .trainees)) (seriesCells depotSize depotCells (weigh size (p .trainees)) (p .depots)) in
+    omega arith
+
+pub entry-count : (p : Placement) → length (entryCells p) ≡ weigh size (p .trainees) + weigh depotSize (p .depots)
+unfolding entryCells
+entry-count p =
+    length-append (joined listCells (p .trainees)) (joined depotListCells (p .depots))
+    ∙ ap₂ _+_ (joined-weigh size listCells entries-weigh (p .trainees)) (joined-weigh depotSize depotListCells depot-weigh (p .depots))
+
+pub order-count : (xs : List Order) → length (cellsOfOrders xs) ≡ 1 + 3 * length xs
+unfolding cellsOfOrders
+order-count xs = let x = series-cells weightless 3 oneOrder order-wide 0 xs in omega arith
+
+-- the cells of a legal placement fit in tables of the full sizes
+pub record Fit (p : Placement) : Type 0 where
+  pub heads : length (headCells p) ≤ 707
+  pub entries : length (entryCells p) ≤ 8192
+  pub orders : length (orderCells p) ≤ 3073
+
+pub cells-fit : (p : Placement) → Legal p → Fit p
+cells-fit p g =
+    let x = head-count p in
+    let y = entry-count p in
+    let z = order-count (p .orders) in
+    record { heads = omega (arith, g .n, g .m); entries = omega (arith, g .trainee-entries, g .depot-entries); orders = omega (arith, g .few-orders) }
+
 -- ---- the three tables
 
 -- the cells of a legal placement, with anything behind them, decode to it
@@ -244,6 +277,10 @@ held-decodes h e o p k =
     ap (λ z. placementOf z e o) (k .heads)
     ∙ ap₂ (λ y z. placementOf (laid (headCells p) h) y z) (k .entries) (k .orders)
     ∙ laid-there p (k .legal) h e o
+
+-- tables hold one placement at most
+pub held-once : (h e o : List ℕ) (p q : Placement) → Holds p h e o → Holds q h e o → p ≡ q
+held-once h e o p q j k = some-own (sym (held-decodes h e o p j) ∙ held-decodes h e o q k)
 
 -- number 8: nothing is decoded exactly if no legal placement has these fronts
 pub refused-exactly : (h e o : List ℕ) → (placementOf h e o ≡ none → (p : Placement) → Holds p h e o → ⊥) × (((p : Placement) → Holds p h e o → ⊥) → placementOf h e o ≡ none)

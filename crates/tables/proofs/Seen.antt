@@ -12,12 +12,12 @@ use Rattle.meaning.specs.Numbers.{In}
 use Rattle.meaning.specs.Lists.{weigh}
 use Rattle.meaning.specs.Placement.{Depot, depot, size, depotSize, LegalList, LegalPosts}
 use Rattle.meaning.proofs.Booleans.{some-own, none-some}
-use Rattle.tables.specs.Cells.{postsCell, lengthCell, part, listCells, traineeCells, depotCells, depotListCells, seriesCells, joined, headCells, laid, traineeStart, depotStart, HeadRoom}
+use Rattle.tables.specs.Cells.{postsCell, lengthCell, part, listCells, traineeCells, depotListCells, joined, headCells, laid, traineeStart, depotStart, HeadRoom}
 use Rattle.tables.specs.Decode.{next, listFrom, postsFrom, traineeFrom, depotFrom, traineesFrom, depotsFrom, limits, Sides, listsFrom, sidesOf, placementWith}
 use Rattle.tables.proofs.Tests.{went, when-back}
-use Rattle.tables.proofs.Series.{series-cells, joined-weigh, series-back, two-cells, three-cells, Single, series-at}
-use Rattle.tables.proofs.One.{ListBack, list-back, posts-back, trainee-wide, entries-weigh, trainee-back, depot-wide, depot-weigh, depot-back}
-use Rattle.tables.proofs.Round.{sides-back, Counts, sides-count}
+use Rattle.tables.proofs.Series.{joined-weigh, series-back, two-cells, three-cells, Single, series-at}
+use Rattle.tables.proofs.One.{ListBack, list-back, posts-back, trainee-wide, entries-weigh, trainee-back, depot-weigh, depot-back}
+use Rattle.tables.proofs.Round.{head-count, sides-back, Counts, sides-count}
 
 -- ---- one list, one depot
 
@@ -119,14 +119,6 @@ pub record SidesSeen (h e : List ℕ) (b : Sides) : Type 0 where
   pub trainee : (i : ℕ) → In (getD h 1 0) i → ListSeen (getD h 2 0) (traineeStart i) h e (getD (none ∷ b .trainees) i none)
   pub depot : (j : ℕ) → In (getD h 2 0) j → DepotSeen (getD h 1 0) (depotStart (getD h 1 0) j) h e (getD (depot none none ∷ b .depots) j (depot none none))
 
-head-count : (b : Sides) → length (headCells (placementWith b [])) ≡ 3 + 2 * length (b .trainees) + 3 * length (b .depots)
-unfolding headCells
-head-count b =
-    let x = series-cells size 2 traineeCells trainee-wide 0 (b .trainees) in
-    let y = series-cells depotSize 3 depotCells depot-wide (weigh size (b .trainees)) (b .depots) in
-    let z = length-append (seriesCells size traineeCells 0 (b .trainees)) (seriesCells depotSize depotCells (weigh size (b .trainees)) (b .depots)) in
-    omega arith
-
 head-room : (h e : List ℕ) (b : Sides) → sidesOf h e ≡ some b → HeadRoom h
 unfolding laid
 head-room h e b q =
@@ -135,7 +127,7 @@ head-room h e b q =
     let n = s .legal .n in
     let m = s .legal .m in
     let x = ap length (s .heads) ∙ length-append (headCells (placementWith b [])) _ in
-    let y = head-count b in
+    let y = head-count (placementWith b []) in
     let t = c .trainees in
     let d = c .depots in
     record { few-trainees = omega arith; few-depots = omega arith; cells = omega arith }

@@ -22,9 +22,9 @@ use Rattle.meaning.proofs.Full.{received, FullBack, full-back, full-trainees, f
 use Rattle.tables.specs.Cells.{postsCell, kindCell, oneOrder, weightless, cellsOfOrders, laid, traineeStart, depotStart, orderStart, HeadRoom}
 use Rattle.tables.specs.Decode.{orderFrom, Sides, sidesOf, ordersOf, placementWith, placementOf}
 use Rattle.tables.specs.Answers.{fullSides}
-use Rattle.tables.proofs.Series.{series-cells, three-cells, Single, series-at, series-count}
-use Rattle.tables.proofs.One.{order-wide, order-back}
-use Rattle.tables.proofs.Round.{sides-back, sides-count, orders-back, parts}
+use Rattle.tables.proofs.Series.{three-cells, Single, series-at, series-count}
+use Rattle.tables.proofs.One.{order-back}
+use Rattle.tables.proofs.Round.{sides-back, sides-count, order-count, orders-back, parts}
 use Rattle.tables.proofs.Seen.{ListSeen, DepotSeen, PartSeen, part-seen, SidesSeen, sides-seen}
 use Rattle.tables.proofs.Lines.{full-sides}
 
@@ -227,11 +227,10 @@ order-seen n m at o x k s =
     record { kind = cc; trainee = cc; depot = cc; legal = r .0 }
 
 orders-room : (n m : ℕ) (o : List ℕ) (xs : List Order) → ordersOf n m o ≡ some xs → 1 + 3 * length xs ≤ length o
-unfolding laid cellsOfOrders
+unfolding laid
 orders-room n m o xs q =
     let x = ap length (orders-back n m o xs q .cells) ∙ length-append (cellsOfOrders xs) _ in
-    let y = series-cells weightless 3 oneOrder order-wide 0 xs in
-    omega arith
+    omega (arith, order-count xs)
 
 pub orders-seen : (n m : ℕ) (o : List ℕ) (xs : List Order) → ordersOf n m o ≡ some xs → OrdersSeen n m o xs
 unfolding ordersOf weightless

@@ -149,7 +149,7 @@ pub fn list_at<'a>(heads: &[u16], entries: &'a [u16], at: usize) -> &'a [u16]
 }
 
 // Where the entries of one list, or of several, end; or no reader could have filled the cells.
-pub enum End {
+enum End {
     At(usize),
     Wrong,
 }
@@ -385,7 +385,8 @@ pub fn orders_ok(orders: &[u16], n: usize, m: usize) -> bool
     first_orders_ok(orders, count, n, m)
 }
 
-// Whether a reader could have filled the used cells: number 8 is given back where none could.
+// Whether a reader could have filled the used cells: number 8 is given back where none could, which is where no legal placement has these fronts
+// (`refused-exactly`, proofs/Round).
 pub fn used_cells_ok(heads: &[u16], entries: &[u16], orders: &[u16]) -> bool
     requires { ⌜ (707 ≤ length (now heads)) × (3073 ≤ length (now orders)) ⌝ }
     ensures { λ r. ⌜ r ≡ isSome (placementOf (now (heads .entry)) (now (entries .entry)) (now (orders .entry))) ⌝ }
@@ -438,7 +439,8 @@ fn missing_depot(heads: &[u16], n: usize, m: usize) -> usize
     0
 }
 
-// The line that number 7 gives for heads that hold a placement's, whatever the entries beside them; 0 where all was received.
+// The line that number 7 gives for heads that hold a placement's, whatever the entries beside them; 0 where all was received (`whole-at-zero`,
+// proofs/Lines).
 pub fn first_missing_line(heads: &[u16]) -> u16
     requires { ⌜ HeadRoom (now heads) ⌝ }
     ensures { λ r. ⌜ ((e : List ℕ) (b : Sides) → sidesOf (now (heads .entry)) e ≡ some b → r ≡ lackingLine (fullSides b)) ⌝ }

@@ -61,7 +61,9 @@ put-digits-returns : (t : ℕ) → put-digits-lts.Need-returns (
   put-digits-below t,
   put-digits.Post,
 ) (put-digits-at t) put-digits.Post
-put-digits-returns t c = put-as (sym (digits-one (c .before .before .before .before .before .before .args .v) (c .before .before .before .before .if1 .taken))) (c .before .before .put-byte .ensures)
+put-digits-returns t c =
+    put-as (sym (digits-one (c .before .before .before .before .before .before .args .v) (c .before .before .before .before .if1 .taken)))
+    (c .before .before .put-byte .ensures)
 
 put-digits-put-digits-requires : (t : ℕ) → put-digits-lts.Need-put-digits-requires (
   put-byte-reads.Asked,
@@ -102,7 +104,8 @@ put-digits-put-byte-requires-2 : (t : ℕ) → put-digits-lts.Need-put-byte-requ
 put-digits-put-byte-requires-2 t c κs =
     let a = c .before .before .before .before .before .before .before .args in
     let P = c .before .before .before .put-digits .ensures in
-    omega (arith, digit-more (a .v) (c .before .before .before .before .before .if1 .left), c .before .before .before .before .before .before .before .pre .1, P .next, put-length P)
+    omega
+    (arith, digit-more (a .v) (c .before .before .before .before .before .if1 .left), c .before .before .before .before .before .before .before .pre .1, P .next, put-length P)
 
 put-digits-same-length-2 : (t : ℕ) → put-digits-lts.Need-same-length-2 (
   put-byte-reads.Asked,
@@ -110,7 +113,9 @@ put-digits-same-length-2 : (t : ℕ) → put-digits-lts.Need-same-length-2 (
   put-digits-below t,
   put-digits.Post,
 ) (put-digits-at t) put-digits.Post
-put-digits-same-length-2 t c = omega (arith, put-length (c .before .before .put-byte2 .ensures), put-length (c .before .before .before .before .before .before .put-digits .ensures))
+put-digits-same-length-2 t c =
+    omega
+    (arith, put-length (c .before .before .put-byte2 .ensures), put-length (c .before .before .before .before .before .before .put-digits .ensures))
 
 put-digits-returns-2 : (t : ℕ) → put-digits-lts.Need-returns-2 (
   put-byte-reads.Asked,
@@ -119,7 +124,9 @@ put-digits-returns-2 : (t : ℕ) → put-digits-lts.Need-returns-2 (
   put-digits.Post,
 ) (put-digits-at t) put-digits.Post
 put-digits-returns-2 t c =
-    put-as (sym (digits-split (c .before .before .before .before .before .before .before .before .before .before .args .v) (c .before .before .before .before .before .before .before .before .if1 .left))) (put-then (c .before .before .before .before .before .before .put-digits .ensures) (c .before .before .put-byte2 .ensures))
+    put-as
+    (sym (digits-split (c .before .before .before .before .before .before .before .before .before .before .args .v) (c .before .before .before .before .before .before .before .before .if1 .left)))
+    (put-then (c .before .before .before .before .before .before .put-digits .ensures) (c .before .before .put-byte2 .ensures))
 
 pub +put-digits-spec : {M : Type 1} → statement M
 +put-digits-spec = close μ-put-digits λ t. put-digits-lts.spec (

@@ -16,7 +16,9 @@ same-length : tie.Need-same-length
 same-length c = omega (arith, put-length (c .before .before .before .before .before .before .put-byte .ensures), put-length (c .before .before .put-digits .ensures))
 
 returns : tie.Need-returns
-returns c = number-put (c .before .before .before .before .before .before .before .before .before .args .v) (c .before .before .before .before .before .before .put-byte .ensures) (c .before .before .put-digits .ensures)
+returns c =
+    number-put (c .before .before .before .before .before .before .before .before .before .args .v)
+    (c .before .before .before .before .before .before .put-byte .ensures) (c .before .before .put-digits .ensures)
 
 pub put-number-spec : {M : Type 1} → statement M
 put-number-spec = tie.close (tie.spec put-byte-requires put-digits-requires same-length returns)

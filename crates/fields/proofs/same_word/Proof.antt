@@ -41,7 +41,8 @@ returns-2 : tie.Need-returns-2 Inv-loop μ-loop
 returns-2 c =
     let l = c .before .before .before .before .loop in
     let a = c .before .before .before .before .before .before .args in
-    sym (l .inv .1 ∙ same-not (a .s .now) (a .w .now) (a .from) (a .to) (l .i) (omega arith) (c .before .before .before .before .before .if1 .left) (omega arith) (c .if2 .taken))
+    sym
+    (l .inv .1 ∙ same-not (a .s .now) (a .w .now) (a .from) (a .to) (l .i) (omega arith) (c .before .before .before .before .before .if1 .left) (omega arith) (c .if2 .taken))
 
 add-i : tie.Need-add-i Inv-loop μ-loop
 add-i c = omega arith

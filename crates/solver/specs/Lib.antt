@@ -1,0 +1,3 @@
+-- The state between two visits, and what the rows say at the end.
+pub mod Going
+pub mod Ends
