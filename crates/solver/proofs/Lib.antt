@@ -2,3 +2,7 @@
 pub mod Lawful
 pub mod Visiting
 pub mod Turns
+pub mod Ending
+pub mod Searches
+pub mod Whole
+pub mod Guards
