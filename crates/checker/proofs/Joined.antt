@@ -15,7 +15,7 @@ use lib.ListN.{set, length, getD, take}
 use lib.Dec.{ltb, eqb}
 use borrow.Author.Tests.{lt-ltb, eqb-true, eq-eqb, ne-eqb, not-true}
 use Rattle.checker.specs.Step.{ordered}
-use Rattle.checker.specs.Ends.{leftCell, leftCells, obeysRows, allObey, placedIn, brokenIn, roomAt, roomIn, endsIn, NamesTrainee, outcomeIn}
+use Rattle.checker.specs.Ends.{leftCell, leftCells, obeysRows, allObey, tableFits, placedIn, brokenIn, roomAt, roomIn, endsIn, NamesTrainee, outcomeIn}
 use Rattle.checker.proofs.Ways.{and-stops, and-goes}
 use Rattle.checker.proofs.Allowed.{open-same}
 use Rattle.meaning.specs.Numbers.{In, _&_, imp, all}
@@ -176,7 +176,7 @@ module _ (h e : List ℕ) (ft : FullTables h e) (holds bars : List ℕ) (orders 
 
   module _ (os : List Order) (stands : standingOf h holds bars ≡ standing os) (S : Struck) (rows : List ℕ) (hold : RowsHold (marketOf h e) (wishesOf h e) S rows) where
     placed-same : (table : List ℕ) → placedIn h e holds bars rows table ≡ outcomeFits (marketOf h e) (wishesOf h e) (standing os) os S (placed-by (take (nOf h) table))
-    unfolding placedIn allObey outcomeFits
+    unfolding placedIn tableFits allObey outcomeFits
     placed-same table = rw (left-same h e ft S rows hold) (go (true-or-false (sameCells (take (nOf h) table) L)))
       where
         L : List ℕ

@@ -5,3 +5,6 @@ pub mod Allowed
 pub mod Replaying
 pub mod Loops
 pub mod Joined
+pub mod Answering
+pub mod Placements
+pub mod Theorems

@@ -3,7 +3,7 @@
 
 -- ---- a test of 1 to n, from 1 on
 
-use Prim.Native.Nat.{ℕ, _+_, _-_, _≤_, _<_}
+use Prim.Native.Nat.{ℕ, suc, _+_, _-_, _≤_, _<_}
 use mathlib.Core.Path.{_≡_, refl, sym, ap, ap₂, _∙_, subst}
 use mathlib.Core.Logic.{⊎-elim}
 use mathlib.Core.Bool.{Bool, true, false, not}
@@ -11,27 +11,33 @@ use mathlib.Core.List.{List, [], _∷_, _++_}
 use native.Mathlib.Omega.{arith}
 use native.Mathlib.Numerals.{add-one}
 use lib.ListN.{drop-of-length-le, length, getD, take, drop, set, List·getD-eq-default}
-use lib.Seq.{take-suc-set, drop-cons}
+use lib.Seq.{length-take-le, take-suc-set, drop-cons}
 use lib.Dec.{ltb, leb, eqb}
 use borrow.Author.Tests.{le-leb, lt-leb, eqb-true, eq-eqb, ne-eqb, not-true, not-false}
 use Rattle.checker.specs.Step.{openAt, ordered}
-use Rattle.checker.specs.Ends.{leftCell, leftCells, obeysRows, brokenIn, roomAt, roomIn}
+use Rattle.checker.specs.Ends.{leftCell, leftCells, saysStable, obeysRows, allObey, tableFits, placedIn, brokenIn, roomAt, roomIn}
 use Rattle.checker.proofs.Ways.{and-stops, and-goes, down-far}
 use Rattle.meaning.specs.Numbers.{In, _&_, imp, all, bit, sum, count}
 use Rattle.meaning.specs.Placement.{held, barred}
-use Rattle.meaning.specs.Market.{mutual?, placed}
+use Rattle.meaning.specs.Market.{Table, mutual?, placed, Stable}
 use Rattle.meaning.specs.Strikes.{allowed}
-use Rattle.meaning.specs.Endings.{tableOf, within?, sameCells}
+use Rattle.meaning.specs.Endings.{tableOf, within?, stable?, sameCells}
+use Rattle.meaning.specs.Stability.{testBy, test}
+use Rattle.meaning.specs.Truth.{TestSays, says-stable, says-stranger, says-over, says-blocking}
 use Rattle.meaning.proofs.Booleans.{true-or-false, never, is-false, iff, and-left, and-right, and-intro, imp-use, imp-intro}
 use Rattle.meaning.proofs.Numbers.{order, same, all-use, all-intro}
 use Rattle.meaning.proofs.Pairs.{mutual-is}
+use Rattle.meaning.proofs.Matchings.{stable-is, is-stable}
+use Rattle.meaning.proofs.Stability.{test-says}
 use Rattle.rows.specs.Marks.{isMarked, withMark, turned}
 use Rattle.rows.specs.Left.{firstPlaceLeft}
 use Rattle.rows.proofs.Marking.{marked-at-place, marked-elsewhere, turned-at}
 use Rattle.rows.proofs.FirstPlace.{first-at-most, before-first-marked, first-unmarked}
 use Rattle.ranks.specs.View.{nOf, mOf, wishesOf, postsOf, marketOf, FullTables}
 use Rattle.ranks.proofs.Tables.{ranged-tables}
+use Rattle.reasons.specs.Rows.{OrderRows}
 use Rattle.reasons.specs.Reasons.{settled, settledBy}
+use Rattle.meaning.specs.declared.Tested.{Tested}
 
 module _ (f : ℕ → Bool) where
   -- the first k pass
@@ -223,6 +229,31 @@ module _ (h e holds rows : List ℕ) (i j m : ℕ) (b : Bool) (em : m ≡ mOf h)
   unfolding brokenIn
   broken-by t o eo = ap not eo ∙ and-goes _ (sym (eb ∙ rw em) ∙ t)
 
+-- ---- what the stability test says
+
+stable-same : (h e : List ℕ) → FullTables h e → (M : Table) → saysStable (testBy (marketOf h e) (wishesOf h e) M) ≡ stable? (marketOf h e) M
+unfolding saysStable marketOf
+stable-same h e ft M = go _ (test-says (marketOf h e) (ranged-tables h e ft) (wishesOf h e) (λ i j. refl) M)
+  where
+    unstable : (Stable (marketOf h e) M → ⊥) → false ≡ stable? (marketOf h e) M
+    unstable n = sym (is-false _ (λ t. n (stable-is (marketOf h e) (ranged-tables h e ft) M t)))
+
+    go : (t : Tested) → TestSays (marketOf h e) M t → saysStable t ≡ stable? (marketOf h e) M
+    go _ (says-stable s) = sym (is-stable (marketOf h e) (ranged-tables h e ft) M s)
+    go _ (says-stranger i w) = unstable (λ s. w .stranger (s .matching .pairs i (w .inside) (w .has)))
+    go _ (says-over j w) = unstable (λ s. omega (arith, w .over, s .matching .within j (w .inside)))
+    go _ (says-blocking i j w) = unstable (λ s. s .unblocked i j (w .blocks))
+
+-- the depot of trainee k + 1 in a stable table
+seat-low : (h e : List ℕ) → FullTables h e → (cells : List ℕ) → stable? (marketOf h e) (tableOf cells) ≡ true → (k : ℕ) → k < nOf h → getD cells k 0 ≤ 64
+unfolding tableOf marketOf
+seat-low h e ft cells t k l = ⊎-elim
+    (λ (z : getD cells k 0 ≤ 0). omega arith)
+    (λ (z : 0 < getD cells k 0).
+    let m = stable-is (marketOf h e) (ranged-tables h e ft) (tableOf cells) t .matching .pairs (suc k) (record { low = omega arith; high = l }) z in
+    omega (arith, ranged-tables h e ft .depot-in (suc k) (getD cells k 0) (m .ranks) .high, ft .few-depots))
+    (order (getD cells k 0) 0)
+
 -- ---- the left table in the front of an array
 
 module _ (h e rows : List ℕ) (n : ℕ) (en : n ≡ nOf h) (left : List ℕ) (el : take (nOf h) left ≡ leftCells h e rows (nOf h)) where
@@ -237,3 +268,48 @@ module _ (h e rows : List ℕ) (n : ℕ) (en : n ≡ nOf h) (left : List ℕ) (e
     pub room-within : b ≡ true → (r : Bool) → r ≡ roomAt h e rows (take (n - 0) left) i j → r ≡ roomIn h e rows i j
     unfolding roomIn
     room-within t r er = er ∙ ap (λ (l : List ℕ). roomAt h e rows l i j) cells-are ∙ and-goes _ (ap (λ (l : List ℕ). within? (marketOf h e) (tableOf l)) (sym cells-are) ∙ sym eb ∙ t)
+
+-- ---- placed: the cells in the front of an array against the ruling's table
+
+module _ (h e holds bars table left : List ℕ) (n : ℕ) (en : n ≡ nOf h) (long : nOf h ≤ length left) (b : Bool) (eb : b ≡ sameCells (take (n - 0) table) (take (n - 0) left)) where
+  front-is : n - 0 ≡ nOf h
+  front-is = omega arith
+
+  front-length : length (take (n - 0) left) ≡ nOf h
+  front-length = rw front-is (length-take-le (nOf h) left long)
+
+  table-is : sameCells (take (nOf h) table) (take (nOf h) left) ≡ b
+  table-is = sym (eb ∙ rw front-is)
+
+  pub placed-other : b ≡ false → false ≡ tableFits h e holds bars (take (nOf h) left) table
+  unfolding tableFits
+  placed-other u = and-stops _ (table-is ∙ u)
+
+  module _ (t : b ≡ true) (s : Bool) (test : Tested) (et : test ≡ testBy (marketOf h e) (wishesOf h e) (tableOf (take (n - 0) left))) (es : s ≡ saysStable test) (ft : FullTables h e) where
+    front-tested : s ≡ stable? (marketOf h e) (tableOf (take (n - 0) left))
+    front-tested = es ∙ ap saysStable et ∙ stable-same h e ft (tableOf (take (n - 0) left))
+
+    front-stable : stable? (marketOf h e) (tableOf (take (nOf h) left)) ≡ s
+    front-stable = sym (front-tested ∙ rw front-is)
+
+    pub placed-unstable : s ≡ false → false ≡ tableFits h e holds bars (take (nOf h) left) table
+    unfolding tableFits
+    placed-unstable u = and-stops _ (front-stable ∙ u) ∙ and-goes _ (table-is ∙ t)
+
+    pub placed-obeys : s ≡ true → (r : Bool) → r ≡ allObey (length (take (n - 0) left)) holds bars (take (n - 0) left) → r ≡ tableFits h e holds bars (take (nOf h) left) table
+    unfolding tableFits
+    placed-obeys v r er =
+        er ∙ ap₂ (λ (k : ℕ) (l : List ℕ). allObey k holds bars l) front-length (ap (λ (k : ℕ). take k left) front-is) ∙ and-goes _ (front-stable ∙ v) ∙ and-goes _ (table-is ∙ t)
+
+    -- the depots of a stable table have places in the order rows
+    pub obey-ready : s ≡ true → OrderRows h holds bars
+        → (length (take (n - 0) left) < length holds) × (length (take (n - 0) left) < length bars) × ((k : ℕ) → k < length (take (n - 0) left) → getD (take (n - 0) left) k 0 ≤ 64)
+    obey-ready v orders = (
+      omega (arith, front-length, orders .holds-long),
+      omega (arith, front-length, orders .bars-long),
+      λ k l. seat-low h e ft (take (n - 0) left) (sym front-tested ∙ v) k (omega (arith, front-length)),
+    )
+
+pub placed-left : (h e holds bars rows table left : List ℕ) (r : Bool) → take (nOf h) left ≡ leftCells h e rows (nOf h) → r ≡ tableFits h e holds bars (take (nOf h) left) table → r ≡ placedIn h e holds bars rows table
+unfolding placedIn
+placed-left h e holds bars rows table left r el er = er ∙ rw el

@@ -1,7 +1,7 @@
 -- The endings, as they are read off tables and rows: the left table from each row's first place left, and the tests of the three endings.
 -- Assumes nothing.
 use Prim.Native.Nat.{ℕ, zero, suc, _-_}
-use mathlib.Core.Bool.{Bool, not}
+use mathlib.Core.Bool.{Bool, true, false, not}
 use mathlib.Core.List.{List, [], _∷_, _++_}
 use lib.ListN.{getD, take}
 use lib.Dec.{ltb, eqb}
@@ -10,6 +10,7 @@ use Rattle.meaning.specs.Market.{mutual?, placed}
 use Rattle.meaning.specs.Endings.{Outcome, placed-by, none-held, none-room, tableOf, within?, stable?, sameCells}
 use Rattle.meaning.specs.declared.Ending.{Ending}
 use Rattle.meaning.specs.declared.Ending.the-variants.{Placed, NoneHeld, NoneRoom}
+use Rattle.meaning.specs.declared.Tested.{Tested}
 use Rattle.rows.specs.Marks.{isMarked}
 use Rattle.rows.specs.Left.{firstPlaceLeft}
 use Rattle.ranks.specs.View.{nOf, mOf, wishesOf, postsOf, marketOf}
@@ -27,6 +28,16 @@ unfoldable pub leftCells : List ℕ → List ℕ → List ℕ → ℕ → List �
 leftCells h e rows zero = []
 leftCells h e rows (suc k) = leftCells h e rows k ++ (leftCell h e rows (suc k) ∷ [])
 
+-- ---- stable
+
+-- the stability test's answer is that nothing is wrong
+unfoldable pub saysStable : Tested → Bool
+saysStable Tested.Stable = true
+saysStable (Tested.NotMutual i) = false
+saysStable (Tested.OverPosts j) = false
+saysStable (Tested.Blocking i j) = false
+saysStable (Tested.Refused r) = false
+
 -- ---- held and barred pairs
 
 -- a trainee with these order rows and the depot c (0 for none) has each depot where they are held, and none from which they are barred
@@ -38,11 +49,14 @@ allObey n holds bars cells = all n (λ i. obeysRows (getD holds i 0) (getD bars 
 
 -- ---- the three endings
 
+-- the table has these cells, and they are stable, with every held pair and no barred one
+unfoldable pub tableFits : List ℕ → List ℕ → List ℕ → List ℕ → List ℕ → List ℕ → Bool
+tableFits h e holds bars cells table =
+    sameCells (take (nOf h) table) cells & (stable? (marketOf h e) (tableOf cells) & allObey (nOf h) holds bars cells)
+
 -- the table is the left table, and that is respecting
 unfoldable pub placedIn : List ℕ → List ℕ → List ℕ → List ℕ → List ℕ → List ℕ → Bool
-placedIn h e holds bars rows table =
-    sameCells (take (nOf h) table) (leftCells h e rows (nOf h))
-    & (stable? (marketOf h e) (tableOf (leftCells h e rows (nOf h))) & allObey (nOf h) holds bars (leftCells h e rows (nOf h)))
+placedIn h e holds bars rows table = tableFits h e holds bars (leftCells h e rows (nOf h)) table
 
 -- the pair is held, and isn't left
 unfoldable pub brokenIn : List ℕ → List ℕ → List ℕ → List ℕ → ℕ → ℕ → Bool

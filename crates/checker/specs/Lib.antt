@@ -2,3 +2,4 @@
 pub mod Step
 pub mod Turns
 pub mod Ends
+pub mod Check

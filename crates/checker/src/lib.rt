@@ -3,21 +3,26 @@ ghost use mathlib.Core.Path.{_≡_};
 ghost use Prim.Native.Nat.{ℕ, _+_, _-_, _*_, _≤_, _<_};
 ghost use lib.ListN.{length, getD, take};
 ghost use lib.Dec.{leb, eqb, ltb};
-ghost use mathlib.Core.Bool.{not};
+ghost use mathlib.Core.Bool.{true, not};
 ghost use Rattle.meaning.specs.Numbers.{In, _&_, count};
 ghost use Rattle.meaning.specs.Lists.{place};
 ghost use Rattle.meaning.specs.Market.{placed};
 ghost use Rattle.meaning.specs.Endings.{tableOf, within?, stable?, sameCells};
 ghost use Rattle.ranks.specs.View.{nOf, mOf, postsOf, marketOf, FullTables};
+ghost use Rattle.stability.specs.Test.{readDepots};
 ghost use Rattle.reasons.specs.Rows.{OrderRows};
 ghost use Rattle.reasons.specs.Scans.{countIn};
 ghost use Rattle.reasons.specs.Reasons.{settled, aboveOf};
 ghost use Rattle.checker.specs.Step.{openAt, ordered, fitsIn, mayStrike, rowsWith};
-ghost use Rattle.checker.specs.Ends.{leftCell, leftCells, obeysRows, allObey, placedIn, brokenIn, roomAt, roomIn, endsIn};
+ghost use Rattle.checker.specs.Ends.{saysStable, leftCell, leftCells, obeysRows, allObey, tableFits, placedIn, brokenIn, roomAt, roomIn, endsIn, NamesTrainee};
+ghost use Rattle.checker.specs.Check.{FullPlacement, RulingCells, CheckSays, checkIn};
 ghost use Rattle.checker.specs.Turns.{TraineesIn, rowsAfter, Going, ReplaySays};
+use meaning::Checked;
 use meaning::Ending;
 use meaning::Reason;
+use meaning::Ruling;
 use meaning::Strike;
+use meaning::Tested;
 
 // What a replay of strikes finds: each was allowed when its turn came, or the step that was not.
 pub enum Replayed {
@@ -344,4 +349,154 @@ fn room_left(heads: &[u16], entries: &[u16], rows: &[u64], i: usize, j: usize) -
         return false;
     }
     room_at(heads, entries, rows, cells, i, j)
+}
+
+// Whether the stability test found nothing wrong.
+fn says_stable(t: Tested) -> bool
+    ensures { λ r. ⌜ r ≡ saysStable t ⌝ }
+{
+    match t {
+        Tested::Stable => true,
+        Tested::NotMutual(_) => false,
+        Tested::OverPosts(_) => false,
+        Tested::Blocking(_, _) => false,
+        Tested::Refused(_) => false,
+    }
+}
+
+// Whether the ruling's table has the cells in the front of `left`, and these are stable, with every held pair and no barred one.
+fn table_fits(
+    heads: &[u16],
+    entries: &[u16],
+    orders: &[u16],
+    holds: &[u64],
+    bars: &[u64],
+    left: &[u16],
+    table: &[u16],
+) -> bool
+    requires { ⌜ FullPlacement (now heads) (now entries) (now orders) × OrderRows (now heads) (now holds) (now bars) × (256 ≤ length (now left))
+        × (readDepots (take (nOf (now heads)) (now left)) ≡ true) × (nOf (now heads) ≤ length (now table)) ⌝ }
+    ensures { λ r. ⌜ r ≡ tableFits (now (heads .entry)) (now (entries .entry)) (now (holds .entry)) (now (bars .entry)) (take (nOf (now (heads .entry))) (now (left .entry))) (now (table .entry)) ⌝ }
+{
+    let n = tables::trainees_of(heads);
+    let cells = &left[0..n];
+    if !same_cells(&table[0..n], cells) {
+        return false;
+    }
+    if !says_stable(stability::test_table(heads, entries, orders, n as u16, left)) {
+        return false;
+    }
+    all_obey(holds, bars, cells)
+}
+
+// Placed: the ruling's table is the left table, and that is respecting.
+fn placed_fits(
+    heads: &[u16],
+    entries: &[u16],
+    orders: &[u16],
+    holds: &[u64],
+    bars: &[u64],
+    rows: &[u64],
+    table: &[u16],
+) -> bool
+    requires { ⌜ FullPlacement (now heads) (now entries) (now orders) × OrderRows (now heads) (now holds) (now bars) × (nOf (now heads) < length (now rows)) × (nOf (now heads) ≤ length (now table)) ⌝ }
+    ensures { λ r. ⌜ r ≡ placedIn (now (heads .entry)) (now (entries .entry)) (now (holds .entry)) (now (bars .entry)) (now (rows .entry)) (now (table .entry)) ⌝ }
+{
+    let left = left_table(heads, entries, rows);
+    table_fits(heads, entries, orders, holds, bars, &left, table)
+}
+
+// Whether the ending fits what is struck.
+fn ending_fits(
+    heads: &[u16],
+    entries: &[u16],
+    orders: &[u16],
+    holds: &[u64],
+    bars: &[u64],
+    rows: &[u64],
+    ending: Ending,
+    table: &[u16],
+) -> bool
+    requires { ⌜ FullPlacement (now heads) (now entries) (now orders) × OrderRows (now heads) (now holds) (now bars) × (nOf (now heads) < length (now rows)) × (nOf (now heads) ≤ length (now table)) × NamesTrainee (nOf (now heads)) ending ⌝ }
+    ensures { λ r. ⌜ r ≡ endsIn (now (heads .entry)) (now (entries .entry)) (now (holds .entry)) (now (bars .entry)) (now (rows .entry)) ending (now (table .entry)) ⌝ }
+{
+    match ending {
+        Ending::Placed => placed_fits(heads, entries, orders, holds, bars, rows, table),
+        Ending::NoneHeld(i, j) => held_broken(
+            heads,
+            entries,
+            holds,
+            rows,
+            reasons::wide(i),
+            reasons::wide(j),
+        ),
+        Ending::NoneRoom(i, j) => room_left(
+            heads,
+            entries,
+            rows,
+            reasons::wide(i),
+            reasons::wide(j),
+        ),
+    }
+}
+
+// The answer once the rows are those of the start and the orders are gathered: the strikes in turn, then the ending.
+fn check_rows(
+    heads: &[u16],
+    entries: &[u16],
+    orders: &[u16],
+    holds: &[u64],
+    bars: &[u64],
+    rows: &mut [u64],
+    ruling: Ruling,
+    table: &[u16],
+    cells: &[u16],
+) -> Checked
+    requires { ⌜ FullPlacement (now heads) (now entries) (now orders) × OrderRows (now heads) (now holds) (now bars) × RulingCells (now heads) ruling (now table) (now cells)
+        × Going (now heads) (now entries) (now holds) (now bars) (now cells) (ruling .strikes) 0 (now rows) ⌝ }
+    ensures { λ r. ⌜ CheckSays (now (heads .entry)) (now (entries .entry)) (now (holds .entry)) (now (bars .entry)) ruling (now (table .entry)) (now (cells .entry)) r ⌝ }
+{
+    let strikes = ruling.strikes;
+    let count = reasons::wide(strikes);
+    match replay(heads, entries, holds, bars, &mut *rows, cells, count) {
+        Replayed::Stopped(k) => Checked::NotAllowed(k),
+        Replayed::AllAllowed => {
+            let ending = ruling.ending;
+            if ending_fits(heads, entries, orders, holds, bars, rows, ending, table) {
+                Checked::Accepted
+            } else {
+                Checked::NotAllowed(strikes + 1)
+            }
+        }
+    }
+}
+
+// The checker's answer to a ruling on full tables: its head, its table and the cells of its strikes.
+pub fn check_cells(
+    heads: &[u16],
+    entries: &[u16],
+    orders: &[u16],
+    ruling: Ruling,
+    table: &[u16],
+    cells: &[u16],
+) -> Checked
+    requires { ⌜ FullPlacement (now heads) (now entries) (now orders) × RulingCells (now heads) ruling (now table) (now cells) ⌝ }
+    ensures { λ r. ⌜ r ≡ checkIn (now (heads .entry)) (now (entries .entry)) (now (orders .entry)) ruling (now (table .entry)) (now (cells .entry)) ⌝ }
+{
+    let mut holds: [u64; 257] = [0; 257];
+    let mut bars: [u64; 257] = [0; 257];
+    reasons::note_orders(heads, entries, orders, &mut holds, &mut bars);
+    let mut rows: [u64; 257] = [0; 257];
+    reasons::start_rows(heads, entries, &mut rows);
+    check_rows(
+        heads,
+        entries,
+        orders,
+        &holds,
+        &bars,
+        &mut rows,
+        ruling,
+        table,
+        cells,
+    )
 }

@@ -1,4 +1,4 @@
--- TODO Assumes nothing.
+-- After k turns trainees 1 to k obey their rows. Assumes nothing.
 use Prim.Native.Nat.{_-_, _≤_}
 use mathlib.Core.Path.{_≡_, _∙_}
 use native.Mathlib.Omega.{arith}

@@ -1,4 +1,4 @@
--- TODO Assumes nothing.
+-- Two tests, the second tried only where the first passes. Assumes nothing.
 use borrow.Author.Tests.{not-true, not-false}
 use borrow.Author.Needs.{needs}
 use Rattle.checker.proofs.Loops.{broken-not, broken-by}

@@ -1,4 +1,4 @@
--- TODO Assumes nothing.
+-- Past the list's end nothing stands, so that where none is left the cell is 0. Assumes nothing.
 use borrow.Author.Needs.{needs}
 use Rattle.checker.proofs.Loops.{left-there, left-none}
 use Rattle.checker.proofs.left_cell.Statement.{statement}

@@ -1,4 +1,4 @@
--- TODO Assumes nothing.
+-- The row with a mark everywhere but at the holds elsewhere has nothing left exactly if there is none. Assumes nothing.
 use Prim.Native.Nat.{_-_}
 use mathlib.Core.Path.{_∙_, ap, sym}
 use native.Mathlib.Omega.{arith}

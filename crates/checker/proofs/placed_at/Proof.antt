@@ -1,4 +1,4 @@
--- TODO Assumes nothing.
+-- After k turns those of trainees 1 to k are counted. Assumes nothing.
 use Prim.Native.Nat.{_-_, _≤_}
 use mathlib.Core.Path.{_≡_, refl, _∙_}
 use native.Mathlib.Omega.{arith}

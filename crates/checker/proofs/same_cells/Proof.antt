@@ -1,4 +1,4 @@
--- TODO Assumes nothing.
+-- What is still to be compared is what lies behind. Assumes nothing.
 use Prim.Native.Nat.{_-_, _≤_}
 use mathlib.Core.Path.{_≡_, refl}
 use native.Mathlib.Omega.{arith}
