@@ -1,0 +1,47 @@
+-- The front of the array is the left table. Assumes nothing.
+use borrow.Author.Tests.{not-true, not-false}
+use borrow.Author.Needs.{needs}
+use Rattle.checker.proofs.Loops.{room-over, room-within}
+use Rattle.checker.proofs.room_left.Statement.{statement}
+use Rattle.checker.proofs.room_left.Tie as tie
+
+trainees-of-requires : tie.Need-trainees-of-requires
+trainees-of-requires c κs = search needs
+
+left-table-requires : tie.Need-left-table-requires
+left-table-requires c κs = search needs
+
+sub-cells : tie.Need-sub-cells
+sub-cells c = search needs
+
+part-cells-start : tie.Need-part-cells-start
+part-cells-start c = search needs
+
+part-cells-end : tie.Need-part-cells-end
+part-cells-end c = search needs
+
+within-posts-requires : tie.Need-within-posts-requires
+within-posts-requires c κs = search needs
+
+returns : tie.Need-returns
+returns c = room-over _ _ _ _ (c .before .before .before .before .before .trainees-of .ensures) _ (c .before .before .before .before .left-table .ensures) _ _ _ (c .before .within-posts .ensures) (not-true _ (c .if1 .taken))
+
+room-at-requires : tie.Need-room-at-requires
+room-at-requires c κs = search needs
+
+returns-2 : tie.Need-returns-2
+returns-2 c = room-within _ _ _ _ (c .before .before .before .before .before .before .trainees-of .ensures) _ (c .before .before .before .before .before .left-table .ensures) _ _ _ (c .before .before .within-posts .ensures) (not-false _ (c .before .if1 .left)) _ (c .room-at .ensures)
+
+pub room-left-spec : {M : Type 1} → statement M
+room-left-spec =
+    tie.close
+    (tie.spec
+    trainees-of-requires
+    left-table-requires
+    sub-cells
+    part-cells-start
+    part-cells-end
+    within-posts-requires
+    returns
+    room-at-requires
+    returns-2)
