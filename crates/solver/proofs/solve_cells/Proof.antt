@@ -8,11 +8,17 @@ use Rattle.solver.proofs.solve_cells.Tie as tie
 trainees-of-requires : tie.Need-trainees-of-requires
 trainees-of-requires c κs = search needs
 
+cast-trainees : tie.Need-cast-trainees
+cast-trainees c = search needs
+
 slice-aggregate-strike-all : tie.Need-slice-aggregate-strike-all
 slice-aggregate-strike-all c = search needs
 
 strike-all-requires : tie.Need-strike-all-requires
 strike-all-requires c κs = search needs
+
+cast-struck : tie.Need-cast-struck
+cast-struck c = search needs
 
 slice-aggregate-ending-of : tie.Need-slice-aggregate-ending-of
 slice-aggregate-ending-of c = search needs
@@ -25,12 +31,6 @@ slice-aggregate-lay-table c = search needs
 
 lay-table-requires : tie.Need-lay-table-requires
 lay-table-requires c κs = search needs
-
-cast-t21 : tie.Need-cast-t21
-cast-t21 c = search needs
-
-cast-t22 : tie.Need-cast-t22
-cast-t22 c = search needs
 
 same-length : tie.Need-same-length
 same-length c = search needs
@@ -46,14 +46,14 @@ solve-cells-spec =
     tie.close
     (tie.spec
     trainees-of-requires
+    cast-trainees
     slice-aggregate-strike-all
     strike-all-requires
+    cast-struck
     slice-aggregate-ending-of
     ending-of-requires
     slice-aggregate-lay-table
     lay-table-requires
-    cast-t21
-    cast-t22
     same-length
     same-length-2
     returns)
