@@ -1,7 +1,7 @@
 -- Both sides and the whole text, from what was read of the parts.
 -- Assumes nothing.
 use Prim.Native.Nat.{ℕ, _+_, _*_, _≤_}
-use mathlib.Core.Path.{_≡_, refl, sym, ap, ap₂, _∙_, subst}
+use mathlib.Core.Path.{_≡_, sym, ap, ap₂, _∙_, subst}
 use mathlib.Core.Option.{Option}
 use mathlib.Core.List.{List, []}
 use native.Mathlib.Omega.{arith}
@@ -12,7 +12,7 @@ use Rattle.meaning.specs.Lists.{weigh}
 use Rattle.meaning.specs.Placement.{Depot, Placement, size, depotSize, LegalList, LegalDepot}
 use Rattle.fields.specs.Reader.{got, refusal, lines}
 use Rattle.fields.proofs.Lines.{lines-back}
-use Rattle.tables.specs.Cells.{traineeCells, depotCells, listCells, depotListCells, seriesCells, joined, headCells, entryCells, orderCells, cellsOfOrders}
+use Rattle.tables.specs.Cells.{traineeCells, depotCells, listCells, depotListCells, seriesCells, joined, headCells, entryCells, orderCells}
 use Rattle.tables.proofs.Round.{head-count, entry-count, order-count}
 use Rattle.placement_text.specs.Writer.{writeTrainee, writeDepot}
 use Rattle.placement_text.specs.Reader.{MOST, traineeLine, depotLine, orders, headFields, readText, refused}

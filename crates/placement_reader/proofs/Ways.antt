@@ -1,7 +1,7 @@
 -- The answer and the lent tables, each way through the reader.
 -- Assumes nothing.
 use Prim.Native.Nat.{ℕ, _≤_, _<_}
-use mathlib.Core.Path.{_≡_, refl, sym, ap, _∙_}
+use mathlib.Core.Path.{_≡_, sym, ap, _∙_}
 use mathlib.Core.Bool.{true, false}
 use mathlib.Core.List.{List}
 use native.Mathlib.Omega.{arith}
@@ -11,8 +11,8 @@ use Rattle.meaning.specs.Placement.{Placement}
 use Rattle.meaning.specs.declared.Reading.{Reading}
 use Rattle.tables.specs.Cells.{headCells, entryCells, orderCells, laid}
 use Rattle.tables.specs.Answers.{sized}
-use Rattle.tables.proofs.Round.{Fit, cells-fit}
-use Rattle.placement_text.specs.Reader.{readText, taken, refused}
+use Rattle.tables.proofs.Round.{cells-fit}
+use Rattle.placement_text.specs.Reader.{readText}
 use Rattle.placement_text.proofs.Round.{read-back}
 use Rattle.placement_text.proofs.Whole.{read-long}
 use Rattle.placement_reader.specs.Reading.{reads, reading, readingOf}
