@@ -462,10 +462,11 @@ fn check_rows(
         Replayed::Stopped(k) => Checked::NotAllowed(k),
         Replayed::AllAllowed => {
             let ending = ruling.ending;
+            let last = strikes + 1;
             if ending_fits(heads, entries, orders, holds, bars, rows, ending, table) {
                 Checked::Accepted
             } else {
-                Checked::NotAllowed(strikes + 1)
+                Checked::NotAllowed(last)
             }
         }
     }
