@@ -51,13 +51,13 @@ head-there : (e n m : ℕ) (r : List ℕ) → e ≡ 1 → n ≤ 256 → m ≤ 64
 head-there e n m r he hn hm =
     subst (λ x. headFields (writeHead x n m ++ r) ≡ got (record { edition = x; n = n; m = m }) r) (sym he) (edition-there n m r hn hm)
 
-record HeadRead (s r : List ℕ) (h : Head) : Type 0 where
-  edition : h .edition ≡ 1
-  n : h .n ≤ 256
-  m : h .m ≤ 64
-  text : s ≡ writeHead (h .edition) (h .n) (h .m) ++ r
+pub record HeadRead (s r : List ℕ) (h : Head) : Type 0 where
+  pub edition : h .edition ≡ 1
+  pub n : h .n ≤ 256
+  pub m : h .m ≤ 64
+  pub text : s ≡ writeHead (h .edition) (h .n) (h .m) ++ r
 
-head-back : (s : List ℕ) {h : Head} {r : List ℕ} → headFields s ≡ got h r → HeadRead s r h
+pub head-back : (s : List ℕ) {h : Head} {r : List ℕ} → headFields s ≡ got h r → HeadRead s r h
 unfolding headFields edition sizes writeHead
 head-back s {h} {r} e =
     let a = went (keyword word-placement s) _ e in

@@ -283,7 +283,7 @@ fn depot_at(
 }
 
 // The lines of the trainees: their heads go to the cells of h behind the first three, and their entries to the front of t.
-fn trainee_lines(s: &[u8], at: usize, n: usize, m: u16, h: &mut [u16], t: &mut [u16]) -> Side
+pub fn trainee_lines(s: &[u8], at: usize, n: usize, m: u16, h: &mut [u16], t: &mut [u16]) -> Side
     requires { ⌜ (at ≤ length (now s)) × (n ≤ 256) × (m ≤ 64) × (3 + 2 * n ≤ length (now h)) × (8192 ≤ length (now t)) ⌝ }
     ensures { λ r. ⌜ TraineesRead (now (s .entry)) (lines (traineeLine m) size n 1 0 [] (drop at (now (s .entry)))) (now (h .entry)) (now (h .exit)) (now (t .entry)) (now (t .exit)) r ⌝ }
 {
@@ -309,7 +309,7 @@ fn trainee_lines(s: &[u8], at: usize, n: usize, m: u16, h: &mut [u16], t: &mut [
 }
 
 // The lines of the depots: their heads go to the cells of h behind those of the n trainees, and their entries to those of t from `base` on.
-fn depot_lines(
+pub fn depot_lines(
     s: &[u8],
     at: usize,
     n: usize,
@@ -433,7 +433,7 @@ fn order_at(s: &[u8], at: usize, n: u16, m: u16, l: usize, c: usize) -> OrderRow
 }
 
 // The lines below the depots, the first of them l: their pairs go to the front of o, behind their number.
-fn order_lines(s: &[u8], at: usize, n: u16, m: u16, l: usize, o: &mut [u16]) -> Orders
+pub fn order_lines(s: &[u8], at: usize, n: u16, m: u16, l: usize, o: &mut [u16]) -> Orders
     requires { ⌜ (at ≤ length (now s)) × (l ≤ 1024) × (3073 ≤ length (now o)) ⌝ }
     ensures { λ r. ⌜ PairsRead (orders 1024 n m l [] (drop at (now (s .entry)))) (now (o .entry)) (now (o .exit)) r ⌝ }
 {
@@ -486,7 +486,7 @@ fn sizes_at(s: &[u8], at: usize) -> HeadRow
 }
 
 // The first line of the text.
-fn head_at(s: &[u8]) -> HeadRow
+pub fn head_at(s: &[u8]) -> HeadRow
     ensures { λ r. ⌜ HeadRead (now (s .entry)) r ⌝ }
 {
     let w = fields::keyword_at(s, 0, b"placement");

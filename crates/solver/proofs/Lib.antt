@@ -6,3 +6,4 @@ pub mod Ending
 pub mod Searches
 pub mod Whole
 pub mod Guards
+pub mod Fits

@@ -322,15 +322,15 @@ pub fn solve_cells(
     ensures { λ r. ⌜ ((p : Placement) (F : Full) → placementOf (now (heads .entry)) (now (entries .entry)) (now (orders .entry)) ≡ some p → full p ≡ whole F → (w : WholeRuling) → solve F (p .orders) ≡ some w
         → SolvedAs w (now (table .entry)) (now (table .exit)) (now (cells .exit)) r) ⌝ }
 {
-    let n = tables::trainees_of(heads);
+    let trainees = tables::trainees_of(heads) as u16;
     let mut rows: [u64; 257] = [0; 257];
-    let used = strike_all(heads, entries, orders, &mut rows, cells);
+    let struck = strike_all(heads, entries, orders, &mut rows, cells) as u16;
     let ending = ending_of(heads, entries, orders, &rows);
     lay_table(heads, entries, &rows, ending, table);
     Ruling {
-        trainees: n as u16,
-        strikes: used as u16,
-        ending: ending,
+        trainees,
+        strikes: struck,
+        ending,
     }
 }
 

@@ -1,5 +1,6 @@
 -- Calls in a walk by hand. Assumes `Given`.
 --     calls-plain      of a callee over plain data alone: what it is passed is made anew, and of its result the relation is kept
+--     calls-number     the same where the result is a `usize`
 --     calls-reading    of a callee that takes one `&[R]`: the slice is Copy, and a copy of what it owns goes to the callee
 --     calls-writing    of a callee that takes one `&mut [R]` and returns nothing: the holder's slice is lent again for the call, and comes back at the last list
 --     calls-strike-at, calls-strike-in     `calls-reading` of `strike_at` and `strike_in`
@@ -67,6 +68,12 @@ module _ {M : Type 1} {𝓤 : URA M} {H : Heap 𝓤} {A : Atoms 𝓤} {K : Type 
       split t $ move t (1 ∷ []) $ use1 W (raw (fact 𝓤 (r ≡ v))) (tells r) $ heard t (r ≡ v) (λ e.
       split t $ drop t $ rewrite t 0 (λ (h : Q .Denot). ‵ (Q .own h (w ∷ []))) e refl $
       peeks t Q (Is Q) (shows 𝓤 H A Q) v (w ∷ []) (λ is. drop t $ next w is))))
+
+  pub calls-number : K → FmC 𝓤 H (W .laws) C → (c : Contract 𝓤) → Triple 𝓤 (C f) c → (x : c .Ghost) (n : ℕ) (P : ℕ → SProp 𝓤)
+      → ent 𝓤 (emp 𝓤) (c .pre x) → ((w : Val) → ent 𝓤 (c .post x w) (mean 𝓤 H A (later (some (λ (r : ℕ). (‵ ftrue ⊛ ‵ (usize .own r (w ∷ []))) ⊛ raw (P r)))))) → ((r : ℕ) → ent 𝓤 (P r) (fact 𝓤 (r ≡ n)))
+      → Opds K W (raw (c .pre x) ∷ Γ) E ops (c .args x) → (n < 2 ^ 64 → Seq K W Γ (lands C Λ E p (vint w64 n) rest q′)) → Seq K W Γ (runs C Λ E (seq (call f ops p) rest) q′)
+  calls-number t fm c known x n P goes gets tells os next =
+      calls-plain t fm c known x usize n P goes gets tells os (λ w is. subst (λ (v : Val). Seq K W Γ (lands C Λ E p v rest q′)) (sym (ap only (is .0))) (next (is .1)))
 
   pub calls-reading : K → FmC 𝓤 H (W .laws) C → (c : Contract 𝓤) → Triple 𝓤 (C f) c → (x : c .Ghost) (Q : RattleType) (v : Q .Denot) (P : Q .Denot → SProp 𝓤)
       (R : RattleType) (ℓ : Lifetime) (κ : Lft) (q : Share) (s : RefT (List (R .Denot))) (vs : List Val)

@@ -1,15 +1,17 @@
 -- Strikes in cells lose nothing: what is put is read back, other strikes stay, and one more put is one more strike. Assumes nothing.
 use Prim.Native.Nat.{ℕ, zero, suc, _+_, _*_, _-_, _≤_, _<_}
 use native.Mathlib.Omega.{arith, ne-cases}
-use native.Mathlib.Nat.{add-zero}
-use mathlib.Core.Path.{_≡_, refl, ap₂, _∙_}
+use native.Mathlib.Nat.{add-zero, eq-or-lt-of-le}
+use native.Mathlib.Numerals.{add-one}
+use mathlib.Core.Logic.{⊎-elim}
+use mathlib.Core.Path.{_≡_, refl, sym, ap, ap₂, _∙_}
 use mathlib.Core.List.{List, [], _∷_, _++_, append-assoc}
 use lib.ListN.{length, getD, take, drop, set, length-append, length-drop, List·getD-append}
-use lib.Seq.{length-take-le, getD-append-add, getD-append-seam, getD-take, getD-drop, sets-eq}
+use lib.Seq.{length-take-le, getD-append-add, getD-append-seam, getD-take, getD-drop, getD-at, take-all, take-append-le, sets-eq}
 use Rattle.meaning.specs.declared.Reason.{Reason}
 use Rattle.meaning.specs.declared.Strike.{Strike}
 use Rattle.meaning.specs.Answers.{reasonNumber, reasonWitness, strikeNumbers}
-use Rattle.strikes.specs.Cells.{reasonOf, strikeAt, strikesIn, cellsWith, at}
+use Rattle.strikes.specs.Cells.{reasonOf, strikeAt, strikesIn, cellsWith, blank, at}
 
 -- ---- reasons
 
@@ -73,6 +75,35 @@ strikes-same a b zero f = refl
 strikes-same a b (suc k) f =
     ap₂ (λ l s. l ++ (s ∷ [])) (strikes-same a b k (λ i h. f i (omega arith))) (strike-same a b k k (λ i h. f (4 * k + i) (omega arith)))
 
+pub strikes-more : (cells : List ℕ) (k : ℕ) → strikesIn cells (suc k) ≡ strikesIn cells k ++ (strikeAt cells k ∷ [])
+unfolding strikesIn
+strikes-more cells k = refl
+
+pub no-strikes : (cells : List ℕ) → strikesIn cells 0 ≡ []
+unfolding strikesIn
+no-strikes cells = refl
+
+-- the first k of more strikes
+pub strikes-front : (cells : List ℕ) (count k : ℕ) → k ≤ count → take k (strikesIn cells count) ≡ strikesIn cells k
+unfolding strikesIn
+strikes-front cells zero zero h = refl
+strikes-front cells zero (suc k) h = absurd (omega arith)
+strikes-front cells (suc m) k h =
+    let n : length (strikesIn cells m) ≡ m = count-strikes cells m in
+    let n′ : length (strikesIn cells (suc m)) ≡ suc m = count-strikes cells (suc m) in
+    ⊎-elim
+    (λ (e : k ≡ suc m). take-all k (strikesIn cells (suc m)) (omega arith) ∙ ap (strikesIn cells) (sym e))
+    (λ (less : k < suc m). take-append-le k (strikesIn cells m) (strikeAt cells m ∷ []) (omega arith) ∙ strikes-front cells m k (omega arith))
+    (eq-or-lt-of-le h)
+
+-- the k-th of them, counted from 0
+pub strikes-nth : (cells : List ℕ) (count k : ℕ) → k < count → at (strikesIn cells count) k ≡ strikeAt cells k
+strikes-nth cells count k h =
+    sym (getD-take (suc k) (strikesIn cells count) k blank (omega arith)) ∙ ap (λ l. at l k) (strikes-front cells count (suc k) (omega arith)) ∙ last
+  where
+    last : at (strikesIn cells (suc k)) k ≡ strikeAt cells k
+    last = ap (λ l. at l k) (strikes-more cells k) ∙ getD-at (strikesIn cells k) (strikeAt cells k) [] blank k (count-strikes cells k)
+
 -- ---- one strike put
 
 -- four stores, one after the other
@@ -127,3 +158,7 @@ module _ (cells : List ℕ) (k : ℕ) (s : Strike) (fits : 4 * k + 4 ≤ length 
   pub put-more : strikesIn (cellsWith cells k s) (suc k) ≡ strikesIn cells k ++ (s ∷ [])
   unfolding strikesIn
   put-more = ap₂ (λ l x. l ++ (x ∷ [])) (strikes-same (cellsWith cells k s) cells k put-before) put-back
+
+  -- the same at a count that code makes
+  pub put-next : strikesIn (cellsWith cells k s) (k + 1) ≡ strikesIn cells k ++ (s ∷ [])
+  put-next = rw add-one put-more

@@ -7,23 +7,20 @@ use lib.ListN.{length, take, drop, set, length-append, length-drop}
 use lib.Seq.{length-take-le, drop-append-add, drop-drop, drop-cons, set-at, take-at, take-suc, take-all, split-at}
 use Rattle.meaning.specs.declared.Strike.{Strike}
 use Rattle.meaning.specs.Answers.{strikeNumbers}
-use Rattle.strikes.specs.Cells.{strikeAt, strikesIn, cellsWith, cellsOf, at}
+use Rattle.strikes.specs.Cells.{strikeAt, strikesIn, cellsWith, cellsOf, filled, flat, at}
 use Rattle.strikes.proofs.Encoding.{four, strike-here, count-strikes}
 
 -- ---- a record's front filled with the strikes of cells
 
 module _ (cells : List ℕ) (old : List Strike) where
-  abbrev pub filled : ℕ → List Strike
-  filled k = strikesIn cells k ++ drop k old
-
-  pub fill-start : old ≡ filled 0
+  pub fill-start : old ≡ filled cells old 0
   unfolding strikesIn
   fill-start = refl
 
-  pub fill-length : (k : ℕ) → k ≤ length old → length (filled k) ≡ length old
+  pub fill-length : (k : ℕ) → k ≤ length old → length (filled cells old k) ≡ length old
   fill-length k h = simp (length-append, count-strikes, length-drop) (omega arith)
 
-  pub fill-more : (k : ℕ) → k < length old → set (filled k) k (strikeAt cells k) ≡ filled (suc k)
+  pub fill-more : (k : ℕ) → k < length old → set (filled cells old k) k (strikeAt cells k) ≡ filled cells old (suc k)
   unfolding strikesIn
   fill-more k h =
       let s : Strike = strikeAt cells k in
@@ -71,35 +68,36 @@ strikes-of ss r (suc k) h =
 -- ---- cells filled with a record's front
 
 module _ (log : List Strike) (old : List ℕ) where
-  abbrev pub flat : ℕ → List ℕ
-  flat k = cellsOf (take k log) ++ drop (4 * k) old
-
-  pub flat-start : old ≡ flat 0
+  pub flat-start : old ≡ flat log old 0
   unfolding cellsOf
   flat-start = refl
 
   pub flat-front : (k : ℕ) → k ≤ length log → length (cellsOf (take k log)) ≡ 4 * k
   flat-front k h = cells-length (take k log) ∙ ap (λ n. 4 * n) (length-take-le k log h)
 
-  pub flat-length : (k : ℕ) → k ≤ length log → 4 * k ≤ length old → length (flat k) ≡ length old
+  pub flat-length : (k : ℕ) → k ≤ length log → 4 * k ≤ length old → length (flat log old k) ≡ length old
   flat-length k h fits = simp (length-append, flat-front k h, length-drop) (omega arith)
 
-  pub flat-more : (k : ℕ) → k < length log → 4 * k + 4 ≤ length old → cellsWith (flat k) k (at log k) ≡ flat (suc k)
+  pub flat-more : (k : ℕ) → k < length log → 4 * k + 4 ≤ length old → cellsWith (flat log old k) k (at log k) ≡ flat log old (suc k)
   unfolding cellsWith
   flat-more k h fits =
       let s : Strike = at log k in
       let p : List ℕ = cellsOf (take k log) in
       let long : length p ≡ 4 * k = flat-front k (omega arith) in
-      let front : take (4 * k) (flat k) ≡ p = take-at p (drop (4 * k) old) (4 * k) long in
+      let front : take (4 * k) (flat log old k) ≡ p = take-at p (drop (4 * k) old) (4 * k) long in
       let four-more : 4 * k + 4 ≡ 4 * suc k = omega arith in
-      let back : drop (4 * k + 4) (flat k) ≡ drop (4 * suc k) old =
-      ap (λ n. drop (n + 4) (flat k)) (sym long) ∙ drop-append-add p (drop (4 * k) old) 4 ∙ drop-drop 4 (4 * k) old ∙ ap (λ n. drop n old) four-more in
+      let back : drop (4 * k + 4) (flat log old k) ≡ drop (4 * suc k) old =
+      ap (λ n. drop (n + 4) (flat log old k)) (sym long) ∙ drop-append-add p (drop (4 * k) old) 4 ∙ drop-drop 4 (4 * k) old ∙ ap (λ n. drop n old) four-more in
       let more : cellsOf (take (suc k) log) ≡ p ++ strikeNumbers s =
       ap cellsOf (take-suc log k _ h) ∙ cells-append (take k log) (s ∷ []) ∙ ap (λ l. p ++ l) (cells-one s) in
       ap₂ (λ a b. a ++ (strikeNumbers s ++ b)) front back ∙ sym (append-assoc p (strikeNumbers s) (drop (4 * suc k) old)) ∙ ap (λ l. l ++ drop (4 * suc k) old) (sym more)
 
   -- the cells hold the record's front
-  pub flat-strikes : (k : ℕ) → k ≤ length log → strikesIn (flat k) k ≡ take k log
+  pub flat-strikes : (k : ℕ) → k ≤ length log → strikesIn (flat log old k) k ≡ take k log
   flat-strikes k h =
       let l : length (take k log) ≡ k = length-take-le k log h in
       strikes-of (take k log) (drop (4 * k) old) k (omega arith) ∙ take-all k (take k log) (omega arith)
+
+  -- flattened and filled in again, the strikes are the same
+  pub flat-filled : (k : ℕ) → k ≤ length log → (other : List Strike) → filled (flat log old k) other k ≡ take k log ++ drop k other
+  flat-filled k h other = ap (λ l. l ++ drop k other) (flat-strikes k h)

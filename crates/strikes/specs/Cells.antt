@@ -37,6 +37,14 @@ unfoldable pub cellsOf : List Strike → List ℕ
 cellsOf [] = []
 cellsOf (s ∷ ss) = strikeNumbers s ++ cellsOf ss
 
+-- a record with its front filled by the first `count` strikes that cells hold, and the rest as it was
+abbrev pub filled : List ℕ → List Strike → ℕ → List Strike
+filled cells log count = strikesIn cells count ++ drop count log
+
+-- cells with their front filled by the first `count` strikes of a record, and the rest as it was
+abbrev pub flat : List Strike → List ℕ → ℕ → List ℕ
+flat log cells count = cellsOf (take count log) ++ drop (4 * count) cells
+
 -- what stands past a record's end
 abbrev pub blank : Strike
 blank = record { trainee = 0; depot = 0; reason = Reason.Barred }

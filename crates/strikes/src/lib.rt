@@ -1,10 +1,9 @@
 // Strikes as plain cells, and the lent row of strikes. Every function over `&[Strike]` or `&mut [Strike]` that other crates need stands here, so that they work on plain cells.
 ghost use mathlib.Core.Path.{_≡_};
-ghost use mathlib.Core.List.{_++_};
 ghost use Prim.Native.Nat.{_+_, _*_, _<_, _≤_};
-ghost use lib.ListN.{length, set, take, drop};
+ghost use lib.ListN.{length, set};
 ghost use Rattle.meaning.specs.Answers.{reasonNumber, reasonWitness};
-ghost use Rattle.strikes.specs.Cells.{at, cellsOf, cellsWith, reasonOf, recorded, strikeAt, strikesIn, taken};
+ghost use Rattle.strikes.specs.Cells.{at, cellsWith, filled, flat, reasonOf, recorded, strikeAt, taken};
 use meaning::Reason;
 use meaning::Ruled;
 use meaning::Strike;
@@ -103,7 +102,7 @@ pub fn store(log: &mut [Strike], k: usize, s: Strike)
 // The strikes that the cells hold go into the record's front, and the rest of the record stays.
 pub fn fill_record(log: &mut [Strike], cells: &[u16], count: usize)
     requires { ⌜ (count ≤ length (now log)) × (4 * count ≤ length (now cells)) ⌝ }
-    ensures { λ _. ⌜ now (log .exit) ≡ strikesIn (now (cells .entry)) count ++ drop count (now (log .entry)) ⌝ }
+    ensures { λ _. ⌜ now (log .exit) ≡ filled (now (cells .entry)) (now (log .entry)) count ⌝ }
 {
     let mut k: usize = 0;
     while k < count {
@@ -116,7 +115,7 @@ pub fn fill_record(log: &mut [Strike], cells: &[u16], count: usize)
 // The record's front goes into the cells, and the cells past it stay.
 pub fn flatten(log: &[Strike], count: usize, cells: &mut [u16])
     requires { ⌜ (count ≤ length (now log)) × (4 * count ≤ length (now cells)) ⌝ }
-    ensures { λ _. ⌜ now (cells .exit) ≡ cellsOf (take count (now (log .entry))) ++ drop (4 * count) (now (cells .entry)) ⌝ }
+    ensures { λ _. ⌜ now (cells .exit) ≡ flat (now (log .entry)) (now (cells .entry)) count ⌝ }
 {
     let mut k: usize = 0;
     while k < count {

@@ -1,28 +1,20 @@
+-- The depot's block stands after the trainees' blocks, and its part is the ranking.
 use native.Mathlib.Omega.{arith}
-use mathlib.Core.Path.{sym, _∙_, ap}
+use mathlib.Core.Path.{sym, _∙_}
 use Rattle.ranks.proofs.Tables.{ranking-is}
 use borrow.Author.Needs.{needs}
 use Rattle.ranks.proofs.depot_part.Statement.{statement}
 use Rattle.ranks.proofs.depot_part.Tie as tie
-use Rattle.ranks.proofs.depot_part.Reads as reads
-use Rattle.ranks.proofs.depot_part.Lts as lts
-use Rattle.ranks.proofs.part_at.Reads as part-at-reads
-use Rattle.tables.proofs.depot_at.Reads as depot-at-reads
-use Rattle.tables.proofs.trainees_of.Reads as trainees-of-reads
 
--- src/lib.rt:34:9
 trainees-of-requires : tie.Need-trainees-of-requires
 trainees-of-requires c κs = search needs
 
--- src/lib.rt:35:29
 depot-at-requires : tie.Need-depot-at-requires
 depot-at-requires c κs = search needs
 
--- src/lib.rt:35:5
 part-at-requires : tie.Need-part-at-requires
 part-at-requires c κs = let a = c .before .before .before .before in (omega (arith, c .depot-at .ensures, c .before .trainees-of .ensures, a .pre .0 .heads-long, a .pre .1 .high), rw (c .depot-at .ensures, c .before .trainees-of .ensures) (a .pre .0 .depot-part (a .args .j) (a .pre .1)))
 
--- src/lib.rt:30:1
 returns : tie.Need-returns
 returns c = let a = c .before .before .before .before .before in c .part-at .ensures ∙ rw (c .before .depot-at .ensures, c .before .before .trainees-of .ensures) (sym (ranking-is _ _ (a .args .j) (a .pre .1)))
 

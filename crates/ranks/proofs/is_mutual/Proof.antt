@@ -1,34 +1,24 @@
+-- Mutual is two places that are not 0; where the first is 0 the other doesn't matter.
 use Rattle.ranks.proofs.Tables.{not-ranked, ranked-in, ranked-back}
 use borrow.Author.Needs.{needs}
 use Rattle.ranks.proofs.is_mutual.Statement.{statement}
 use Rattle.ranks.proofs.is_mutual.Tie as tie
-use Rattle.ranks.proofs.is_mutual.Reads as reads
-use Rattle.ranks.proofs.is_mutual.Lts as lts
-use Rattle.ranks.proofs.depot_part.Reads as depot-part-reads
-use Rattle.ranks.proofs.place_on.Reads as place-on-reads
-use Rattle.ranks.proofs.trainee_part.Reads as trainee-part-reads
 
--- src/lib.rt:66:9
 trainee-part-requires : tie.Need-trainee-part-requires
 trainee-part-requires c κs = search needs
 
--- src/lib.rt:67:8
 place-on-requires : tie.Need-place-on-requires
 place-on-requires c κs = search needs
 
--- src/lib.rt:68:9
 returns : tie.Need-returns
 returns c = not-ranked _ _ _ _ _ _ (c .before .before .trainee-part .ensures) (c .before .place-on .ensures) (c .if1 .taken)
 
--- src/lib.rt:70:9
 depot-part-requires : tie.Need-depot-part-requires
 depot-part-requires c κs = (c .before .before .before .before .before .pre .0, ranked-in _ _ _ _ _ _ (c .before .before .trainee-part .ensures) (c .before .place-on .ensures) (c .before .before .before .before .before .pre .0) (c .if1 .left))
 
--- src/lib.rt:71:5
 place-on-requires-2 : tie.Need-place-on-requires-2
 place-on-requires-2 c κs = search needs
 
--- src/lib.rt:62:1
 returns-2 : tie.Need-returns-2
 returns-2 c = ranked-back _ _ _ _ _ _ (c .before .before .before .before .trainee-part .ensures) (c .before .before .before .place-on .ensures) (c .before .before .if1 .left) _ _ (c .before .depot-part .ensures) (c .place-on2 .ensures)
 

@@ -1,58 +1,37 @@
-use native.Mathlib.Omega.{arith}
-use mathlib.Core.Path.{_≡_, refl, sym, ap, ap₂, _∙_}
-use mathlib.Core.List.{List}
-use mathlib.Core.Bool.{true}
-use Prim.Native.Nat.{ℕ}
-use Rattle.reasons.specs.Orders.{markFor}
+-- The kind's cell decides which rows are marked; the other rows stay.
+use mathlib.Core.Path.{sym, _∙_}
 use Rattle.reasons.proofs.Noting.{noted-held, noted-barred, order-ready}
 use borrow.Author.Needs.{needs}
 use Rattle.reasons.proofs.note_order.Statement.{statement}
 use Rattle.reasons.proofs.note_order.Tie as tie
-use Rattle.reasons.proofs.note_order.Reads as reads
-use Rattle.reasons.proofs.note_order.Lts as lts
-use Rattle.reasons.proofs.mark_pair.Reads as mark-pair-reads
-use Rattle.tables.proofs.order_at.Reads as order-at-reads
-use Rattle.tables.proofs.order_depot.Reads as order-depot-reads
-use Rattle.tables.proofs.order_kind.Reads as order-kind-reads
-use Rattle.tables.proofs.order_trainee.Reads as order-trainee-reads
 
--- src/lib.rt:219:9
 order-at-requires : tie.Need-order-at-requires
 order-at-requires c κs = search needs
 
--- src/lib.rt:220:9
 order-trainee-requires : tie.Need-order-trainee-requires
 order-trainee-requires c κs = search needs
 
--- src/lib.rt:221:9
 order-depot-requires : tie.Need-order-depot-requires
 order-depot-requires c κs = search needs
 
--- src/lib.rt:222:8
 order-kind-requires : tie.Need-order-kind-requires
 order-kind-requires c κs = search needs
 
--- src/lib.rt:223:9
 mark-pair-requires : tie.Need-mark-pair-requires
 mark-pair-requires c κs = let a = c .before .before .before .before .before .before .before .before .before .before .before in order-ready _ _ (a .args .holds .now) (a .pre .0 .few-depots) (a .pre .1) (a .args .k) (a .pre .2) _ _ (c .before .before .before .before .before .order-at .ensures) (c .before .before .before .before .order-trainee .ensures) (c .before .before .before .order-depot .ensures) (a .pre .4 .holds-long)
 
--- src/lib.rt:225:9
 mark-pair-requires-2 : tie.Need-mark-pair-requires-2
 mark-pair-requires-2 c κs = let a = c .before .before .before .before .before .before .before .before .before .before .before in order-ready _ _ (a .args .bars .now) (a .pre .0 .few-depots) (a .pre .1) (a .args .k) (a .pre .2) _ _ (c .before .before .before .before .before .order-at .ensures) (c .before .before .before .before .order-trainee .ensures) (c .before .before .before .order-depot .ensures) (a .pre .4 .bars-long)
 
--- src/lib.rt:207:1
 same-length : tie.Need-same-length
 same-length c = search needs
 
--- src/lib.rt:207:1
 returns : tie.Need-returns
 returns c = let a = c .before .before .before .before .before .before .before .before .before .before .before .before .before .before in noted-held (a .args .orders .now) (a .args .holds .now) (a .args .bars .now) (a .args .k) _ _ _ (c .before .before .before .before .before .before .before .before .order-at .ensures) (c .before .before .before .before .before .before .before .order-trainee .ensures) (c .before .before .before .before .before .before .order-depot .ensures) (sym (c .before .before .before .before .before .order-kind .ensures) ∙ c .before .before .before .before .if1 .taken) (c .before .before .mark-pair .ensures)
 
--- src/lib.rt:207:1
 same-length-2 : tie.Need-same-length-2
 same-length-2 c = search needs
 
--- src/lib.rt:207:1
 returns-2 : tie.Need-returns-2
 returns-2 c = let a = c .before .before .before .before .before .before .before .before .before .before .before .before .before .before in noted-barred (a .args .orders .now) (a .args .holds .now) (a .args .bars .now) (a .args .k) _ _ _ (c .before .before .before .before .before .before .before .before .order-at .ensures) (c .before .before .before .before .before .before .before .order-trainee .ensures) (c .before .before .before .before .before .before .order-depot .ensures) (λ e. c .before .before .before .before .if1 .left (c .before .before .before .before .before .order-kind .ensures ∙ e)) (c .before .before .mark-pair2 .ensures)
 

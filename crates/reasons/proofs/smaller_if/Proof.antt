@@ -1,25 +1,17 @@
-use native.Mathlib.Omega.{arith}
-use mathlib.Core.Path.{refl}
-use Rattle.reasons.specs.Scans.{smaller, smallerIf}
+-- By the test, then by whether something was found before.
 use Rattle.reasons.proofs.Steps.{smaller-none, smaller-less, smaller-not, smaller-skip}
 use Rattle.reasons.proofs.smaller_if.Statement.{statement}
 use Rattle.reasons.proofs.smaller_if.Tie as tie
-use Rattle.reasons.proofs.smaller_if.Reads as reads
-use Rattle.reasons.proofs.smaller_if.Lts as lts
 
--- src/lib.rt:78:13
 returns : tie.Need-returns
 returns c = smaller-none _ _ _ (c .before .if1 .taken) (c .if2 .taken)
 
--- src/lib.rt:81:13
 returns-2 : tie.Need-returns-2
 returns-2 c = smaller-less _ _ _ (c .before .before .if1 .taken) (c .before .if2 .left) (c .if3 .taken)
 
--- src/lib.rt:73:1
 returns-3 : tie.Need-returns-3
 returns-3 c = smaller-not _ _ _ (c .before .before .if1 .taken) (c .before .if2 .left) (c .if3 .left)
 
--- src/lib.rt:73:1
 returns-4 : tie.Need-returns-4
 returns-4 c = smaller-skip _ _ _ (c .if1 .left)
 

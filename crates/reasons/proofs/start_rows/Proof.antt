@@ -1,14 +1,11 @@
+-- The rows of the trainees passed so far are start rows.
 use native.Mathlib.Omega.{arith}
-use Prim.Native.Nat.{ℕ, _≤_, _-_, _+_}
-use mathlib.Core.Path.{_≡_, refl, sym, ap, _∙_}
+use Prim.Native.Nat.{_≤_, _-_, _+_}
+use mathlib.Core.Path.{_≡_, refl, _∙_}
 use lib.ListN.{length, length-set}
 use Rattle.reasons.proofs.Starting.{StartedBelow, started-more}
 use Rattle.reasons.proofs.start_rows.Statement.{statement}
 use Rattle.reasons.proofs.start_rows.Tie as tie
-use Rattle.reasons.proofs.start_rows.Reads as reads
-use Rattle.reasons.proofs.start_rows.Lts as lts
-use Rattle.reasons.proofs.start_row.Reads as start-row-reads
-use Rattle.tables.proofs.trainees_of.Reads as trainees-of-reads
 
 abbrev Inv-loop : tie.InvT-loop
 Inv-loop heads entries rows₀ n i₀ rows i = (1 ≤ i) × (i ≤ n + 1) × (length rows ≡ length rows₀) × StartedBelow heads entries i rows
@@ -16,43 +13,33 @@ Inv-loop heads entries rows₀ n i₀ rows i = (1 ≤ i) × (i ≤ n + 1) × (le
 abbrev μ-loop : tie.MeasureT-loop
 μ-loop heads entries rows₀ n i₀ rows i = n + 1 - i
 
--- src/lib.rt:190:9
 trainees-of-requires : tie.Need-trainees-of-requires Inv-loop μ-loop
 trainees-of-requires c κs = omega (arith, c .before .before .before .pre .0 .heads-long)
 
--- src/lib.rt:192:5
 loop-holds : tie.Need-loop-holds Inv-loop μ-loop
 loop-holds c = (omega arith, omega arith, refl, λ k a b. absurd (omega arith))
 
--- src/lib.rt:193:19
 start-row-requires : tie.Need-start-row-requires Inv-loop μ-loop
 start-row-requires c κs = let a = c .before .before .before .before .before .before in (a .pre .0, record { low = c .before .loop .inv .0; high = omega (arith, c .before .before .trainees-of .ensures) })
 
--- src/lib.rt:193:9
 mul-rows : tie.Need-mul-rows Inv-loop μ-loop
 mul-rows c = omega arith
 
--- src/lib.rt:193:9
 slice-write-rows : tie.Need-slice-write-rows Inv-loop μ-loop
 slice-write-rows c = omega (arith, c .before .before .loop .inv .2, c .before .before .before .trainees-of .ensures, c .before .before .before .before .before .before .before .pre .1)
 
--- src/lib.rt:194:9
 add-i : tie.Need-add-i Inv-loop μ-loop
 add-i c = omega arith
 
--- src/lib.rt:192:5
 loop-less : tie.Need-loop-less Inv-loop μ-loop
 loop-less c = omega arith
 
--- src/lib.rt:192:5
 loop-again : tie.Need-loop-again Inv-loop μ-loop
 loop-again c = let a = c .before .before .before .before .before .before .before in let l = c .before .before .loop in (omega arith, omega arith, length-set (l .rows) (l .i) (c .start-row .result) ∙ l .inv .2, started-more _ _ (l .i) (l .rows) (omega (arith, l .inv .2, c .before .before .before .trainees-of .ensures, a .pre .1)) (l .inv .3) _ (c .start-row .ensures))
 
--- src/lib.rt:186:1
 same-length : tie.Need-same-length Inv-loop μ-loop
 same-length c = c .before .loop .inv .2
 
--- src/lib.rt:186:1
 returns : tie.Need-returns Inv-loop μ-loop
 returns c = λ k r. c .before .loop .inv .3 k (r .low) (omega (arith, r .high, c .before .before .trainees-of .ensures))
 

@@ -1,14 +1,9 @@
+-- After k cells the table's front is the front of the left table.
 use native.Mathlib.Omega.{arith}
-use Prim.Native.Nat.{ℕ, _≤_, _-_}
-use mathlib.Core.Path.{_≡_, refl, sym, ap, _∙_}
-use lib.ListN.{length}
+use Prim.Native.Nat.{_≤_, _-_}
 use Rattle.solver.proofs.Searches.{LaidTo, laid-none, laid-more, laid-all}
 use Rattle.solver.proofs.fill_left.Statement.{statement}
 use Rattle.solver.proofs.fill_left.Tie as tie
-use Rattle.solver.proofs.fill_left.Reads as reads
-use Rattle.solver.proofs.fill_left.Lts as lts
-use Rattle.solver.proofs.left_to.Reads as left-to-reads
-use Rattle.tables.proofs.trainees_of.Reads as trainees-of-reads
 
 abbrev Inv-loop : tie.InvT-loop
 Inv-loop heads entries rows table₀ n k₀ table k = (k ≤ n) × LaidTo heads entries rows table₀ k table
@@ -16,47 +11,36 @@ Inv-loop heads entries rows table₀ n k₀ table k = (k ≤ n) × LaidTo heads 
 abbrev μ-loop : tie.MeasureT-loop
 μ-loop heads entries rows table₀ n k₀ table k = n - k
 
--- src/lib.rt:203:9
 trainees-of-requires : tie.Need-trainees-of-requires Inv-loop μ-loop
 trainees-of-requires c κs = omega (arith, c .before .before .before .before .pre .0 .tables .heads-long)
 
--- src/lib.rt:205:5
 loop-holds : tie.Need-loop-holds Inv-loop μ-loop
 loop-holds c = (omega arith, laid-none _ _ _ _)
 
--- src/lib.rt:206:50
 add-left-to : tie.Need-add-left-to Inv-loop μ-loop
 add-left-to c = omega arith
 
--- src/lib.rt:206:20
 left-to-requires : tie.Need-left-to-requires Inv-loop μ-loop
 left-to-requires c κs = let a = c .before .before .before .before .before .before .before in (a .pre .0, record { low = omega arith; high = omega (arith, c .before .before .trainees-of .ensures) })
 
--- src/lib.rt:206:9
 mul-table : tie.Need-mul-table Inv-loop μ-loop
 mul-table c = omega arith
 
--- src/lib.rt:206:9
 slice-write-table : tie.Need-slice-write-table Inv-loop μ-loop
 slice-write-table c = omega (arith, c .before .before .loop .inv .1 .long, c .before .before .before .trainees-of .ensures, c .before .before .before .before .before .before .before .before .pre .1)
 
--- src/lib.rt:207:9
 add-k : tie.Need-add-k Inv-loop μ-loop
 add-k c = omega arith
 
--- src/lib.rt:205:5
 loop-less : tie.Need-loop-less Inv-loop μ-loop
 loop-less c = omega arith
 
--- src/lib.rt:205:5
 loop-again : tie.Need-loop-again Inv-loop μ-loop
 loop-again c = let l = c .before .before .loop in (omega arith, laid-more _ _ _ _ (l .k) (l .table) (omega (arith, l .inv .1 .long, c .before .before .before .trainees-of .ensures, c .before .before .before .before .before .before .before .before .pre .1)) (l .inv .1) _ (c .left-to .ensures))
 
--- src/lib.rt:199:1
 same-length : tie.Need-same-length Inv-loop μ-loop
 same-length c = c .before .loop .inv .1 .long
 
--- src/lib.rt:199:1
 returns : tie.Need-returns Inv-loop μ-loop
 returns c = let a = c .before .before .before .before .before .before .before in let l = c .before .loop in laid-all _ _ _ _ _ (a .pre .0 .tables) (a .pre .0 .rows-hold) (a .pre .1) (l .k) (omega (arith, c .before .before .trainees-of .ensures)) (l .inv .1)
 

@@ -1,42 +1,30 @@
-use native.Mathlib.Omega.{arith}
+-- The first place left is a place of the list, or nothing is left.
 use Rattle.solver.proofs.Searches.{left-there, left-none}
 use borrow.Author.Needs.{needs}
 use Rattle.solver.proofs.left_to.Statement.{statement}
 use Rattle.solver.proofs.left_to.Tie as tie
-use Rattle.solver.proofs.left_to.Reads as reads
-use Rattle.solver.proofs.left_to.Lts as lts
-use Rattle.ranks.proofs.trainee_part.Reads as trainee-part-reads
-use Rattle.rows.proofs.first_left.Reads as first-left-reads
 
--- src/lib.rt:193:9
 trainee-part-requires : tie.Need-trainee-part-requires
 trainee-part-requires c κs = search needs
 
--- src/lib.rt:194:30
 mul-first-left : tie.Need-mul-first-left
 mul-first-left c = search needs
 
--- src/lib.rt:194:30
 shared-slice-read-first-left : tie.Need-shared-slice-read-first-left
 shared-slice-read-first-left c = search needs
 
--- src/lib.rt:194:9
 first-left-requires : tie.Need-first-left-requires
 first-left-requires c κs = search needs
 
--- src/lib.rt:195:27
 mul-result : tie.Need-mul-result
 mul-result c = search needs
 
--- src/lib.rt:195:27
 shared-slice-read-result : tie.Need-shared-slice-read-result
 shared-slice-read-result c = search needs
 
--- src/lib.rt:189:1
 returns : tie.Need-returns
 returns c = let a = c .before .before .before .before .before .before .before .before in left-there _ _ _ (a .args .i) _ _ (c .before .before .before .before .trainee-part .ensures) (c .before .before .first-left .ensures)
 
--- src/lib.rt:189:1
 returns-2 : tie.Need-returns-2
 returns-2 c = let a = c .before .before .before .before .before .before .before in left-none _ _ _ (a .args .i) _ _ (c .before .before .before .trainee-part .ensures) (c .before .first-left .ensures) (c .if1 .left)
 

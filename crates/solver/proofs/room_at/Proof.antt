@@ -1,6 +1,7 @@
+-- A full depot has room for nobody; else a pass along its list finds the smallest who would come.
 use native.Mathlib.Omega.{arith}
-use Prim.Native.Nat.{ℕ, _<_, _≤_}
-use mathlib.Core.Path.{_≡_, refl, sym, ap, _∙_}
+use Prim.Native.Nat.{ℕ}
+use mathlib.Core.Path.{sym, ap, _∙_}
 use mathlib.Core.List.{List}
 use Rattle.reasons.specs.Reasons.{numberOr, settled}
 use Rattle.reasons.specs.Scans.{leastIn}
@@ -8,43 +9,29 @@ use Rattle.solver.proofs.Ending.{room-least, room-taken}
 use borrow.Author.Needs.{needs}
 use Rattle.solver.proofs.room_at.Statement.{statement}
 use Rattle.solver.proofs.room_at.Tie as tie
-use Rattle.solver.proofs.room_at.Reads as reads
-use Rattle.solver.proofs.room_at.Lts as lts
-use Rattle.ranks.proofs.depot_part.Reads as depot-part-reads
-use Rattle.ranks.proofs.posts_at.Reads as posts-at-reads
-use Rattle.reasons.proofs.pass_along.Reads as pass-along-reads
-use Rattle.reasons.proofs.wide.Reads as wide-reads
 
--- src/lib.rt:216:9
 posts-at-requires : tie.Need-posts-at-requires
 posts-at-requires c κs = search needs
 
--- src/lib.rt:217:31
 mul-wide : tie.Need-mul-wide
 mul-wide c = search needs
 
--- src/lib.rt:217:31
 element-copy-out-wide : tie.Need-element-copy-out-wide
 element-copy-out-wide c = search needs
 
--- src/lib.rt:217:17
 wide-requires : tie.Need-wide-requires
 wide-requires c κs = search needs
 
--- src/lib.rt:218:9
 returns : tie.Need-returns
 unfolding numberOr
 returns c = let a = c .before .before .before .before .before .before .before in sym (room-taken _ _ _ (a .pre .0 .tables) _ (a .pre .0 .rows-hold) _ (a .args .j) (omega (arith, c .before .before .before .posts-at .ensures, c .before .wide .ensures, a .pre .1 (a .args .j) (a .pre .2), c .if1 .taken)))
 
--- src/lib.rt:220:9
 depot-part-requires : tie.Need-depot-part-requires
 depot-part-requires c κs = search needs
 
--- src/lib.rt:221:9
 pass-along-requires : tie.Need-pass-along-requires
 pass-along-requires c κs = let a = c .before .before .before .before .before .before .before .before in let t = a .pre .0 .tables in (t, rw (c .depot-part .ensures) (t .depot-names (a .args .j)), a .pre .0 .rows-long, rw (c .depot-part .ensures) (omega (arith, t .depot-short (a .args .j))))
 
--- src/lib.rt:212:1
 returns-2 : tie.Need-returns-2
 returns-2 c = let a = c .before .before .before .before .before .before .before .before .before in ap numberOr (c .pass-along .ensures .1 ∙ ap (λ (l : List ℕ). leastIn (settled (a .args .heads .now) (a .args .entries .now) (a .args .rows .now) 0 (a .args .j)) l 0) (c .before .depot-part .ensures)) ∙ sym (room-least _ _ _ (a .pre .0 .tables) _ (a .pre .0 .rows-hold) _ (a .args .j) (omega (arith, c .before .before .before .before .before .posts-at .ensures, c .before .before .before .wide .ensures, a .pre .1 (a .args .j) (a .pre .2), c .before .before .if1 .left)))
 

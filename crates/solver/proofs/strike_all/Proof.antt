@@ -1,53 +1,37 @@
+-- Rows of zeros keep no order, start rows no strike; the sweeps go on from there.
 use native.Mathlib.Omega.{arith}
-use Prim.Native.Nat.{_<_}
-use mathlib.Core.Path.{_≡_}
 use Rattle.solver.proofs.Whole.{zeros-noted, going-start, all-struck}
 use borrow.Author.Needs.{needs}
 use Rattle.solver.proofs.strike_all.Statement.{statement}
 use Rattle.solver.proofs.strike_all.Tie as tie
-use Rattle.solver.proofs.strike_all.Reads as reads
-use Rattle.solver.proofs.strike_all.Lts as lts
-use Rattle.reasons.proofs.note_orders.Reads as note-orders-reads
-use Rattle.reasons.proofs.start_rows.Reads as start-rows-reads
-use Rattle.solver.proofs.sweep_all.Reads as sweep-all-reads
 
--- src/lib.rt:306:50
 slice-aggregate-note-orders : tie.Need-slice-aggregate-note-orders
 slice-aggregate-note-orders c = search needs
 
--- src/lib.rt:306:62
 slice-aggregate-note-orders-2 : tie.Need-slice-aggregate-note-orders-2
 slice-aggregate-note-orders-2 c = search needs
 
--- src/lib.rt:306:5
 note-orders-requires : tie.Need-note-orders-requires
 note-orders-requires c κs = let a = c .before .before .before .before .before .before .before in (a .pre .0, a .pre .1, zeros-noted _ _ _ (a .pre .0))
 
--- src/lib.rt:307:5
 start-rows-requires : tie.Need-start-rows-requires
 start-rows-requires c κs = search needs
 
--- src/lib.rt:308:31
 slice-aggregate-sweep-all : tie.Need-slice-aggregate-sweep-all
 slice-aggregate-sweep-all c = search needs
 
--- src/lib.rt:308:39
 slice-aggregate-sweep-all-2 : tie.Need-slice-aggregate-sweep-all-2
 slice-aggregate-sweep-all-2 c = search needs
 
--- src/lib.rt:308:5
 sweep-all-requires : tie.Need-sweep-all-requires
 sweep-all-requires c κs = let a = c .before .before .before .before .before .before .before .before .before .before .before .before .before .before .before .before .before .before in let noted = c .before .before .before .before .before .before .before .before .before .before .note-orders .ensures in going-start _ _ _ _ _ _ (a .pre .0) (noted .rows) (omega (arith, a .pre .2, c .before .before .before .before .before .before .start-rows .kept .1 .1 .0)) (a .pre .3) (c .before .before .before .before .before .before .start-rows .ensures)
 
--- src/lib.rt:294:1
 same-length : tie.Need-same-length
 same-length c = search needs
 
--- src/lib.rt:294:1
 same-length-2 : tie.Need-same-length-2
 same-length-2 c = search needs
 
--- src/lib.rt:294:1
 returns : tie.Need-returns
 returns c = let a = c .before .before .before .before .before .before .before .before .before .before .before .before .before .before .before .before .before .before .before .before .before .before .before in all-struck _ _ _ _ _ _ _ _ (a .pre .1) (c .before .before .before .before .before .before .before .before .before .before .before .before .before .before .before .note-orders .ensures) (c .before .before .before .before .sweep-all .ensures)
 

@@ -1,6 +1,6 @@
 -- A walk by hand, with a loop: each turn takes one strike out of the cells and stores it, so that after k turns the record is `filled k`. Assumes nothing.
 use mathlib.Core.Path.{_≡_, refl, sym, subst}
-use Prim.Native.Nat.{ℕ, zero, suc, _+_, _*_, _-_, _<_, _≤_, _^_}
+use Prim.Native.Nat.{ℕ, suc, _+_, _*_, _-_, _<_, _≤_, _^_}
 use native.Mathlib.Nat.{lt-irrefl}
 use native.Mathlib.Omega.{arith}
 use native.Mathlib.Numerals.{add-one}
@@ -42,12 +42,12 @@ use denote.Triple.Walked.{says, needs, Stays, stay-none, stay-slice, stay-none-s
 use denote.Exit.{yes}
 use denote.Signature.{plain}
 use Rattle.meaning.specs.declared.Strike.{Strike}
-use Rattle.strikes.specs.Cells.{strikeAt}
-use Rattle.strikes.proofs.Rows.{filled, fill-start, fill-length, fill-more}
+use Rattle.strikes.specs.Cells.{filled, strikeAt}
+use Rattle.strikes.proofs.Rows.{fill-start, fill-length, fill-more}
 use Rattle.meaning.proofs.Strike as T
 use Rattle.meaning.proofs.Strike.Laws as T′
 use Rattle.strikes.proofs.Calls.{Store, StrikeIn, calls-store, calls-strike-in}
-use Rattle.strikes.proofs.Turns.{holds, fails, Turn, state-loop}
+use Rattle.strikes.proofs.Turns.{holds, fails, count-loop}
 use Rattle.strikes.proofs.store.Symbol as store-def
 use Rattle.strikes.proofs.store.Symbol.{name as #strikes·store}
 use Rattle.strikes.proofs.store.Met as store-thm
@@ -183,16 +183,6 @@ module _ {M : Type 1} (𝓤 : URA M) (H : Heap 𝓤) (A : Atoms 𝓤) (W : Given
           move ! (13 ∷ 14 ∷ []) $ free1 ! $ move ! (4 ∷ 13 ∷ []) $ free1 ! $ move ! (4 ∷ 12 ∷ []) $ free1 ! $ move ! (4 ∷ 11 ∷ []) $ free1 ! $ move ! (4 ∷ 10 ∷ []) $ free1 ! $ move ! (4 ∷ 9 ∷ []) $ free1 ! $ move ! (4 ∷ 8 ∷ []) $ free1 ! $ move ! (4 ∷ 7 ∷ []) $ free1 ! $ move ! (4 ∷ 6 ∷ []) $ free1 ! $ move ! (4 ∷ 5 ∷ []) $ free1 ! $ free0 ! $
           by ! (exits enough)
 
-      abbrev States : Type 0
-      States = (i : ℕ) × (i ≤ n)
-
-      turns : Turn 𝓤 H A W 𝓣 En body.turn-1 Left States (λ s. n - s .0) (λ s. At (s .0))
-      turns (i, le) X again = by-cases (n - i) refl
-        where
-          by-cases : (t : ℕ) → n - i ≡ t → ent 𝓤 (⋆ 𝓤 H A (At i)) (Wp 𝓤 H (𝓣 .C) (𝓣 .Λ) En body.turn-1 (afterTurn 𝓤 H X Left))
-          by-cases zero e = subst (λ (j : ℕ). ent 𝓤 (⋆ 𝓤 H A (At j)) (Wp 𝓤 H (𝓣 .C) (𝓣 .Λ) En body.turn-1 (afterTurn 𝓤 H X Left))) (omega (arith, e, le)) (ends X)
-          by-cases (suc t) e = more i X (omega (arith, e, le)) (again (suc i, omega (arith, e, le)) (omega (arith, e, le)))
-
     walk : ent 𝓤 (onEntry 𝓤 H A fill-record.signature (κ, (κ′, tt)) (q, (q′, tt)) a vals) (WpFn 𝓤 H (𝓣 .C) (𝓣 .Λ) code.function (s ∷ s′ ∷ vint w64 n ∷ []) Post)
     walk =
         qed W ((‵ (flft κ q) ⊛ ‵ (flft κ′ q′) ⊛ ‵ ftrue) ∷ ‵ (owns (MutSlice (named 0) κ T.the-row ∷ ShrSlice (named 1) κ′ u16 ∷ usize ∷ []) a vals) ∷ []) ∵ enter ! (𝓣 .C) (𝓣 .Λ) code.function (s ∷ s′ ∷ vint w64 n ∷ []) _ $
@@ -201,7 +191,7 @@ module _ {M : Type 1} (𝓤 : URA M) (H : Heap 𝓤) (A : Atoms 𝓤) (W : Given
         assigns ! (of-opd ! (lit ! tt)) (from ! (stop !)) (init ! 10 refl (tt, record { fits = lit< tt })) $
         move ! (21 ∷ []) $ fsplit ! $ move ! (1 ∷ []) $ fsplit ! $ move ! (23 ∷ []) $ split ! $ move ! (1 ∷ []) $ split ! $ rewrite ! 5 Log (fill-start rs ys) refl $
         keep ! (2 ∷ 0 ∷ 5 ∷ 3 ∷ 22 ∷ 20 ∷ 18 ∷ 16 ∷ 14 ∷ 12 ∷ 10 ∷ 8 ∷ 6 ∷ 24 ∷ 25 ∷ 23 ∷ 21 ∷ 19 ∷ 17 ∷ 15 ∷ 13 ∷ 11 ∷ 9 ∷ 7 ∷ []) $
-        by ! (state-loop 𝓤 H A W 𝓣 (En l₀ l₁ l₂ l₃ l₄ l₅ l₆ l₇ l₈ l₉) body.turn-1 (Left l₀ l₁ l₂ l₃ l₄ l₅ l₆ l₇ l₈ l₉) (States l₀ l₁ l₂ l₃ l₄ l₅ l₆ l₇ l₈ l₉) (λ s. n - s .0) (λ s. At l₀ l₁ l₂ l₃ l₄ l₅ l₆ l₇ l₈ l₉ (s .0)) (turns l₀ l₁ l₂ l₃ l₄ l₅ l₆ l₇ l₈ l₉) (0, omega arith))))))))))))
+        by ! (count-loop 𝓤 H A W 𝓣 (En l₀ l₁ l₂ l₃ l₄ l₅ l₆ l₇ l₈ l₉) body.turn-1 (Left l₀ l₁ l₂ l₃ l₄ l₅ l₆ l₇ l₈ l₉) n (At l₀ l₁ l₂ l₃ l₄ l₅ l₆ l₇ l₈ l₉) (more l₀ l₁ l₂ l₃ l₄ l₅ l₆ l₇ l₈ l₉) (ends l₀ l₁ l₂ l₃ l₄ l₅ l₆ l₇ l₈ l₉))))))))))))
 
 module _ {M : Type 1} (𝓤 : URA M) (H : Heap 𝓤) (A : Atoms 𝓤) (W : Given 𝓤 H A) (mem : Memory → SProp 𝓤) (run : Routine → Fun 𝓤) where
   fill-record-walks : (𝓣 : Tables 𝓤 H) → Triple 𝓤 (𝓣 .C #strikes·store) (Store 𝓤 H A mem run) → Triple 𝓤 (𝓣 .C #strikes·strike-in) (StrikeIn 𝓤 H A mem run) → Walks 𝓤 H A fill-record.ended stayed (WpFn 𝓤 H (𝓣 .C) (𝓣 .Λ) code.function) (fill-record.clauses 𝓤 H A mem run)

@@ -1,6 +1,6 @@
 -- A walk by hand, with a loop: each turn takes one strike out of the record and puts it into its cells, so that after k turns the cells are `flat k`. Assumes nothing.
 use mathlib.Core.Path.{_≡_, refl, sym, subst}
-use Prim.Native.Nat.{ℕ, zero, suc, _+_, _*_, _-_, _<_, _≤_, _^_}
+use Prim.Native.Nat.{ℕ, suc, _+_, _*_, _-_, _<_, _≤_, _^_}
 use native.Mathlib.Nat.{lt-irrefl}
 use native.Mathlib.Omega.{arith}
 use native.Mathlib.Numerals.{add-one}
@@ -42,12 +42,12 @@ use denote.Triple.Walked.{says, needs, Stays, stay-none, stay-slice, stay-none-s
 use denote.Exit.{yes}
 use denote.Signature.{plain}
 use Rattle.meaning.specs.declared.Strike.{Strike}
-use Rattle.strikes.specs.Cells.{at}
-use Rattle.strikes.proofs.Rows.{flat, flat-start, flat-length, flat-more}
+use Rattle.strikes.specs.Cells.{at, flat}
+use Rattle.strikes.proofs.Rows.{flat-start, flat-length, flat-more}
 use Rattle.meaning.proofs.Strike as T
 use Rattle.meaning.proofs.Strike.Laws as T′
 use Rattle.strikes.proofs.Calls.{Put, StrikeAt, calls-put, calls-strike-at}
-use Rattle.strikes.proofs.Turns.{holds, fails, Turn, state-loop}
+use Rattle.strikes.proofs.Turns.{holds, fails, count-loop}
 use Rattle.strikes.proofs.put_strike.Symbol as put-def
 use Rattle.strikes.proofs.put_strike.Symbol.{name as #strikes·put-strike}
 use Rattle.strikes.proofs.put_strike.Met as put-thm
@@ -183,16 +183,6 @@ module _ {M : Type 1} (𝓤 : URA M) (H : Heap 𝓤) (A : Atoms 𝓤) (W : Given
           move ! (13 ∷ 14 ∷ []) $ free1 ! $ move ! (4 ∷ 13 ∷ []) $ free1 ! $ move ! (4 ∷ 12 ∷ []) $ free1 ! $ move ! (4 ∷ 11 ∷ []) $ free1 ! $ move ! (4 ∷ 10 ∷ []) $ free1 ! $ move ! (4 ∷ 9 ∷ []) $ free1 ! $ move ! (4 ∷ 8 ∷ []) $ free1 ! $ move ! (4 ∷ 7 ∷ []) $ free1 ! $ move ! (4 ∷ 6 ∷ []) $ free1 ! $ move ! (4 ∷ 5 ∷ []) $ free1 ! $ free0 ! $
           by ! (exits enough enough′)
 
-      abbrev States : Type 0
-      States = (i : ℕ) × (i ≤ n)
-
-      turns : Turn 𝓤 H A W 𝓣 En body.turn-1 Left States (λ s. n - s .0) (λ s. At (s .0))
-      turns (i, le) X again = by-cases (n - i) refl
-        where
-          by-cases : (t : ℕ) → n - i ≡ t → ent 𝓤 (⋆ 𝓤 H A (At i)) (Wp 𝓤 H (𝓣 .C) (𝓣 .Λ) En body.turn-1 (afterTurn 𝓤 H X Left))
-          by-cases zero e = subst (λ (j : ℕ). ent 𝓤 (⋆ 𝓤 H A (At j)) (Wp 𝓤 H (𝓣 .C) (𝓣 .Λ) En body.turn-1 (afterTurn 𝓤 H X Left))) (omega (arith, e, le)) (ends X)
-          by-cases (suc t) e = more i X (omega (arith, e, le)) (again (suc i, omega (arith, e, le)) (omega (arith, e, le)))
-
     walk : ent 𝓤 (onEntry 𝓤 H A flatten.signature (κ, (κ′, tt)) (q, (q′, tt)) a vals) (WpFn 𝓤 H (𝓣 .C) (𝓣 .Λ) code.function (s ∷ vint w64 n ∷ s′ ∷ []) Post)
     walk =
         qed W ((‵ (flft κ q) ⊛ ‵ (flft κ′ q′) ⊛ ‵ ftrue) ∷ ‵ (owns (ShrSlice (named 0) κ T.the-row ∷ usize ∷ MutSlice (named 1) κ′ u16 ∷ []) a vals) ∷ []) ∵ enter ! (𝓣 .C) (𝓣 .Λ) code.function (s ∷ vint w64 n ∷ s′ ∷ []) _ $
@@ -201,7 +191,7 @@ module _ {M : Type 1} (𝓤 : URA M) (H : Heap 𝓤) (A : Atoms 𝓤) (W : Given
         assigns ! (of-opd ! (lit ! tt)) (from ! (stop !)) (init ! 10 refl (tt, record { fits = lit< tt })) $
         move ! (21 ∷ []) $ fsplit ! $ move ! (1 ∷ []) $ fsplit ! $ move ! (1 ∷ []) $ fsplit ! $ move ! (24 ∷ []) $ split ! $ move ! (1 ∷ []) $ split ! $ rewrite ! 3 Cells (flat-start ys rs) refl $
         keep ! (2 ∷ 0 ∷ 6 ∷ 3 ∷ 23 ∷ 21 ∷ 19 ∷ 17 ∷ 15 ∷ 13 ∷ 11 ∷ 9 ∷ 7 ∷ 25 ∷ 26 ∷ 24 ∷ 22 ∷ 20 ∷ 18 ∷ 16 ∷ 14 ∷ 12 ∷ 10 ∷ 8 ∷ []) $
-        by ! (state-loop 𝓤 H A W 𝓣 (En l₀ l₁ l₂ l₃ l₄ l₅ l₆ l₇ l₈ l₉) body.turn-1 (Left l₀ l₁ l₂ l₃ l₄ l₅ l₆ l₇ l₈ l₉) (States l₀ l₁ l₂ l₃ l₄ l₅ l₆ l₇ l₈ l₉) (λ s. n - s .0) (λ s. At l₀ l₁ l₂ l₃ l₄ l₅ l₆ l₇ l₈ l₉ (s .0)) (turns l₀ l₁ l₂ l₃ l₄ l₅ l₆ l₇ l₈ l₉) (0, omega arith))))))))))))
+        by ! (count-loop 𝓤 H A W 𝓣 (En l₀ l₁ l₂ l₃ l₄ l₅ l₆ l₇ l₈ l₉) body.turn-1 (Left l₀ l₁ l₂ l₃ l₄ l₅ l₆ l₇ l₈ l₉) n (At l₀ l₁ l₂ l₃ l₄ l₅ l₆ l₇ l₈ l₉) (more l₀ l₁ l₂ l₃ l₄ l₅ l₆ l₇ l₈ l₉) (ends l₀ l₁ l₂ l₃ l₄ l₅ l₆ l₇ l₈ l₉))))))))))))
 
 module _ {M : Type 1} (𝓤 : URA M) (H : Heap 𝓤) (A : Atoms 𝓤) (W : Given 𝓤 H A) (mem : Memory → SProp 𝓤) (run : Routine → Fun 𝓤) where
   flatten-walks : (𝓣 : Tables 𝓤 H) → Triple 𝓤 (𝓣 .C #strikes·put-strike) (Put 𝓤 H A mem run) → Triple 𝓤 (𝓣 .C #strikes·strike-at) (StrikeAt 𝓤 H A mem run) → Walks 𝓤 H A flatten.ended stayed (WpFn 𝓤 H (𝓣 .C) (𝓣 .Λ) code.function) (flatten.clauses 𝓤 H A mem run)

@@ -1,0 +1,2 @@
+-- What the public functions promise follows from what their cores promise.
+pub mod Telling

@@ -1,0 +1,2 @@
+-- What the public functions leave behind.
+pub mod Solve

@@ -1,0 +1,5 @@
+-- The laws that reading is proved by, and what its answers mean.
+pub mod Fronts
+pub mod Parts
+pub mod Below
+pub mod Ways

@@ -1,0 +1,3 @@
+-- Reading a placement text into the lent tables.
+pub mod Reading
+pub mod Code

@@ -1,0 +1,3 @@
+-- Writing the placement that the lent tables hold.
+pub mod Held
+pub mod Writing
