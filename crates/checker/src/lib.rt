@@ -6,8 +6,7 @@ ghost use lib.Dec.{leb, eqb, ltb};
 ghost use mathlib.Core.Bool.{true, not};
 ghost use Rattle.meaning.specs.Numbers.{In, _&_, count};
 ghost use Rattle.meaning.specs.Lists.{place};
-ghost use Rattle.meaning.specs.Market.{placed};
-ghost use Rattle.meaning.specs.Endings.{tableOf, within?, stable?, sameCells};
+ghost use Rattle.meaning.specs.Endings.{tableOf, within?, sameCells};
 ghost use Rattle.ranks.specs.View.{nOf, mOf, postsOf, marketOf, FullTables};
 ghost use Rattle.stability.specs.Test.{readDepots};
 ghost use Rattle.reasons.specs.Rows.{OrderRows};
@@ -462,10 +461,11 @@ fn check_rows(
         Replayed::Stopped(k) => Checked::NotAllowed(k),
         Replayed::AllAllowed => {
             let ending = ruling.ending;
+            let last = strikes + 1;
             if ending_fits(heads, entries, orders, holds, bars, rows, ending, table) {
                 Checked::Accepted
             } else {
-                Checked::NotAllowed(strikes + 1)
+                Checked::NotAllowed(last)
             }
         }
     }

@@ -17,11 +17,11 @@ enum-known-k c = search needs
 enum-told : tie.Need-enum-told
 enum-told c = search needs
 
+add-last : tie.Need-add-last
+add-last c = search needs
+
 ending-fits-requires : tie.Need-ending-fits-requires
 ending-fits-requires c κs = let a = c .before .before .before .before .before .before .before .before .before .before .before .before .before .before .before .before in let g = all-going _ _ _ _ (a .args .ruling) (a .args .table .now) _ _ (c .before .before .before .before .before .before .before .wide .ensures) _ _ (c .before .before .before .before .before .replay .ensures) (c .before .enum-told .given .1) in (a .pre .0, a .pre .1, g .long, a .pre .2 .table-cells, a .pre .2 .ending-trainee)
-
-add-t22 : tie.Need-add-t22
-add-t22 c = search needs
 
 same-length : tie.Need-same-length
 same-length c = search needs
@@ -49,8 +49,8 @@ check-rows-spec =
     replay-requires
     enum-known-k
     enum-told
+    add-last
     ending-fits-requires
-    add-t22
     same-length
     returns
     same-length-2
