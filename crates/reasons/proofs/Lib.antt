@@ -5,4 +5,5 @@ pub mod Least
 pub mod Choosing
 pub mod Steps
 pub mod Starting
+pub mod Tallies
 pub mod Noting
