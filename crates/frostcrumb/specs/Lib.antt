@@ -1,2 +1,3 @@
 -- What the public functions leave behind.
 pub mod Solve
+pub mod Keeps

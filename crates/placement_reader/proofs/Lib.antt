@@ -3,3 +3,5 @@ pub mod Fronts
 pub mod Parts
 pub mod Below
 pub mod Ways
+pub mod Refusals
+pub mod Promises

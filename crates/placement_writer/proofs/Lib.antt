@@ -3,3 +3,4 @@ pub mod Going
 pub mod Lines
 pub mod Held
 pub mod Ways
+pub mod Promises

@@ -42,7 +42,7 @@ module _ (h e o out : List ℕ) where
     answer-short-out l = sym (rw (f, lt-leb 65536 (length out) l, writingOf))
 
     module _ (room : 65536 ≤ length out) where
-      answer-tables : writing (placementOf h e o) out ≡ writingOf h e o out
+      pub answer-tables : writing (placementOf h e o) out ≡ writingOf h e o out
       unfolding writingOf _&_
       answer-tables = sym (rw (f, le-leb 65536 (length out) room, writingOf))
 

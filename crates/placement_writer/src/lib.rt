@@ -47,14 +47,14 @@ fn put_list(heads: &[u16], entries: &[u16], cells: usize, out: &mut [u8], at: us
 }
 
 // Posts, or `?`.
-fn put_posts(v: usize, out: &mut [u8], at: usize) -> usize
-    requires { ⌜ (v < 65536) × (at + length (writeReceived (numberIn v)) ≤ length (now out)) ⌝ }
-    ensures { λ r. ⌜ Put (now (out .entry)) (now (out .exit)) at (writeReceived (numberIn v)) r ⌝ }
+fn put_posts(posts: usize, out: &mut [u8], at: usize) -> usize
+    requires { ⌜ (posts < 65536) × (at + length (writeReceived (numberIn posts)) ≤ length (now out)) ⌝ }
+    ensures { λ r. ⌜ Put (now (out .entry)) (now (out .exit)) at (writeReceived (numberIn posts)) r ⌝ }
 {
-    if v == tables::NOT_RECEIVED {
+    if posts == tables::NOT_RECEIVED {
         return fields::put_word(out, at, b"\t?");
     }
-    fields::put_number(out, at, v as u16)
+    fields::put_number(out, at, posts as u16)
 }
 
 // The line of trainee i.
@@ -185,7 +185,8 @@ fn put_text(heads: &[u16], entries: &[u16], orders: &[u16], out: &mut [u8]) -> u
     fields::put_word(out, d, b"end\n")
 }
 
-// Writes the placement that the tables hold: its text over the front of the output, and how long it is; or refused, with every lent cell as it was.
+// Writes the placement that the tables hold: its text over the front of the output, and how long it is; or refused, with every lent cell as it was
+// (`refused-unchanged`, `unread-means`, `unread-when`, `read-then-written`, `written-then-read`, proofs/Promises).
 pub fn write_placement(heads: &[u16], entries: &[u16], orders: &[u16], out: &mut [u8]) -> Writing
     ensures { λ r. ⌜ writes r (now (out .exit)) ≡ writingOf (now (heads .entry)) (now (entries .entry)) (now (orders .entry)) (now (out .entry)) ⌝ }
 {
