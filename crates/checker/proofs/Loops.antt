@@ -17,7 +17,8 @@ use borrow.Author.Tests.{le-leb, lt-leb, eqb-true, eq-eqb, ne-eqb, not-true, not
 use Rattle.checker.specs.Step.{openAt, ordered}
 use Rattle.checker.specs.Ends.{leftCell, leftCells, saysStable, obeysRows, allObey, tableFits, placedIn, brokenIn, roomAt, roomIn}
 use Rattle.checker.proofs.Ways.{and-stops, and-goes, down-far}
-use Rattle.meaning.specs.Numbers.{In, _&_, imp, all, bit, sum, count}
+use Rattle.stability.specs.Search.{Counts}
+use Rattle.meaning.specs.Numbers.{In, _&_, imp, all}
 use Rattle.meaning.specs.Placement.{held, barred}
 use Rattle.meaning.specs.Market.{Table, mutual?, placed, Stable}
 use Rattle.meaning.specs.Strikes.{allowed}
@@ -93,26 +94,22 @@ module _ (a b : List ℕ) (k : ℕ) (q : Bool) (inv : q ≡ sameCells (drop k a)
   unfolding sameCells
   same-all l = let u : length b ≤ k = omega arith in sym (inv ∙ rw (drop-of-length-le a l, drop-of-length-le b u))
 
--- ---- how many are placed
+-- ---- how many are placed, by the counts of all depots
 
-pub placed-more : (cells : List ℕ) (j k c d : ℕ) → c ≡ count k (λ i. eqb (tableOf cells i) j) → d ≡ bit (eqb (getD cells k 0) j) + c → d ≡ count (k + 1) (λ i. eqb (tableOf cells i) j)
-unfolding count sum tableOf
-placed-more cells j k c d ec ed = ed ∙ rw (add-one k, ec)
-
-module _ (h e cells : List ℕ) (len : length cells ≡ nOf h) where
-  placed-count : (j c : ℕ) → c ≡ count (length cells) (λ k. eqb (tableOf cells k) j) → c ≡ placed (marketOf h e) (tableOf cells) j
+module _ (h e cells counts : List ℕ) (counted : Counts (tableOf cells) (nOf h) counts) where
+  placed-count : (j c : ℕ) → j ≤ 64 → c ≡ getD counts j 0 → c ≡ placed (marketOf h e) (tableOf cells) j
   unfolding placed marketOf
-  placed-count j c ec = ec ∙ rw len
+  placed-count j c l ec = ec ∙ counted j l
 
   -- depot j has no more trainees than posts
   abbrev pub fitsPosts : ℕ → Bool
   fitsPosts j = leb (placed (marketOf h e) (tableOf cells) j) (postsOf h j)
 
-  pub posts-fit : (j c p : ℕ) → c ≡ count (length cells) (λ k. eqb (tableOf cells k) j) → p ≡ postsOf h j → c ≤ p → fitsPosts j ≡ true
-  posts-fit j c p ec ep l = rw (← placed-count j c ec, ← ep) (le-leb c p l)
+  pub posts-fit : (j c p : ℕ) → j ≤ 64 → c ≡ getD counts j 0 → p ≡ postsOf h j → c ≤ p → fitsPosts j ≡ true
+  posts-fit j c p low ec ep l = rw (← placed-count j c low ec, ← ep) (le-leb c p l)
 
-  pub posts-over : (j c p : ℕ) → c ≡ count (length cells) (λ k. eqb (tableOf cells k) j) → p ≡ postsOf h j → p < c → fitsPosts j ≡ false
-  posts-over j c p ec ep l = rw (← placed-count j c ec, ← ep) (lt-leb c p l)
+  pub posts-over : (j c p : ℕ) → j ≤ 64 → c ≡ getD counts j 0 → p ≡ postsOf h j → p < c → fitsPosts j ≡ false
+  posts-over j c p low ec ep l = rw (← placed-count j c low ec, ← ep) (lt-leb c p l)
 
   pub within-all : Passed fitsPosts (mOf h) → true ≡ within? (marketOf h e) (tableOf cells)
   unfolding within? marketOf
@@ -138,10 +135,10 @@ module _ (h e cells : List ℕ) (len : length cells ≡ nOf h) where
       unfolding roomAt
       room-near l = and-stops _ (sym (down-far h e rows j i far ef) ∙ lt-leb 2 far l) ∙ and-goes _ (sym eb ∙ t)
 
-      pub room-far : 2 ≤ far → (c p : ℕ) → c ≡ count (length cells) (λ k. eqb (tableOf cells k) j) → p ≡ postsOf h j → ltb c p ≡ roomAt h e rows cells i j
+      pub room-far : 2 ≤ far → (c p : ℕ) → j ≤ 64 → c ≡ getD counts j 0 → p ≡ postsOf h j → ltb c p ≡ roomAt h e rows cells i j
       unfolding roomAt
-      room-far l c p ec ep =
-          ap₂ ltb (placed-count j c ec) ep ∙ and-goes _ (sym (down-far h e rows j i far ef) ∙ le-leb 2 far l) ∙ and-goes _ (sym eb ∙ t)
+      room-far l c p low ec ep =
+          ap₂ ltb (placed-count j c low ec) ep ∙ and-goes _ (sym (down-far h e rows j i far ef) ∙ le-leb 2 far l) ∙ and-goes _ (sym eb ∙ t)
 
 -- ---- held and barred pairs
 

@@ -2,8 +2,9 @@
 -- Assumes nothing.
 
 -- p is the placement that the tables hold, and F its full form
+use lib.Seq.{length-take-le}
 use Prim.Native.Nat.{ℕ, zero, suc, _-_, _≤_, _<_}
-use mathlib.Core.Path.{_≡_, refl, sym, _∙_}
+use mathlib.Core.Path.{_≡_, refl, sym, _∙_, subst}
 use mathlib.Core.Logic.{⊎-elim}
 use mathlib.Core.Bool.{true}
 use mathlib.Core.Option.{some}
@@ -11,12 +12,13 @@ use mathlib.Core.List.{List, [], _∷_, _++_}
 use native.Mathlib.Omega.{arith}
 use lib.ListN.{length, getD, take, List·getD-eq-default}
 use lib.Dec.{leb}
-use borrow.Author.Tests.{le-leb, eq-eqb}
+use borrow.Author.Tests.{leb-true, le-leb, eq-eqb}
 use Rattle.checker.specs.Ends.{leftCell, leftCells}
 use Rattle.checker.specs.Check.{FullPlacement}
-use Rattle.meaning.specs.Numbers.{count}
+use Rattle.meaning.specs.Numbers.{In, count}
 use Rattle.meaning.specs.Placement.{held, Placement, Legal}
 use Rattle.meaning.specs.Full.{Full, whole, full}
+use Rattle.meaning.specs.Market.{Table}
 use Rattle.meaning.specs.Endings.{tableOf}
 use Rattle.meaning.specs.Stability.{testBy, test}
 use Rattle.meaning.proofs.Booleans.{and-left, and-right, and-intro}
@@ -30,6 +32,7 @@ use Rattle.tables.proofs.Views.{OrderSeen, TablesSeen, tables-seen}
 use Rattle.ranks.specs.View.{nOf, wishesOf, marketOf, FullTables}
 use Rattle.ranks.proofs.Held.{market-held, lists-held, full-tables}
 use Rattle.reasons.specs.Orders.{FullOrders}
+use Rattle.stability.specs.Search.{Counts}
 use Rattle.stability.specs.Test.{longEnough, readDepots, readBeside, testIfFull, testIfRead, testOf}
 use Rattle.meaning.specs.declared.Tested.{Tested}
 
@@ -79,6 +82,25 @@ unfolding leftCells readDepots
 left-read h e rows ft zero = refl
 left-read h e rows ft (suc k) = read-end (leftCells h e rows k) (leftCell h e rows (suc k)) (left-read h e rows ft k) (cell-low h e rows ft (suc k))
 
+read-low : (l : List ℕ) → readDepots l ≡ true → (k : ℕ) → getD l k 0 ≤ 64
+unfolding readDepots
+read-low [] t k = omega arith
+read-low (y ∷ ys) t zero = leb-true y 64 (and-left _ _ t)
+read-low (y ∷ ys) t (suc k) = read-low ys (and-right (leb y 64) _ t) k
+
+-- the left table in the front of an array has few enough cells, each of a depot that can be counted
+pub left-countable : (h e rows : List ℕ) → FullTables h e → (n : ℕ) → n ≡ nOf h → (left : List ℕ) → nOf h ≤ length left → take (nOf h) left ≡ leftCells h e rows (nOf h)
+    → (length (take (n - 0) left) ≡ nOf h) × ((i : ℕ) → In (length (take (n - 0) left)) i → tableOf (take (n - 0) left) i ≤ 64)
+unfolding tableOf
+left-countable h e rows ft n en left long el = (rw z (length-take-le (nOf h) left long), low)
+  where
+    z : n - 0 ≡ nOf h
+    z = omega arith
+
+    low : (i : ℕ) → In (length (take (n - 0) left)) i → tableOf (take (n - 0) left) i ≤ 64
+    low zero r = absurd (omega (arith, r .low))
+    low (suc k) r = rw (z, el) (read-low (leftCells h e rows (nOf h)) (left-read h e rows ft (nOf h)) k)
+
 -- the stability test refuses no table of as many trainees whose cells can have been read
 pub cells-tested : (h e o : List ℕ) → FullPlacement h e o → (n : ℕ) → n ≡ nOf h → (left : List ℕ) → 256 ≤ length left → readDepots (take (nOf h) left) ≡ true
     → (t : Tested) → t ≡ testOf h e o n left → t ≡ testBy (marketOf h e) (wishesOf h e) (tableOf (take (n - 0) left))
@@ -100,3 +122,7 @@ cells-tested h e o fp n en left long depots t et =
       ← market-held h e (fp .its-full) (w .sides),
       ← lists-held h e (fp .its-full) (w .sides),
     )
+
+-- the counts are of all trainees
+pub counts-all : (M : Table) (k n : ℕ) (counts : List ℕ) → k ≡ n → Counts M k counts → Counts M n counts
+counts-all M k n counts e f = subst (λ (x : ℕ). Counts M x counts) e f

@@ -4,11 +4,12 @@ ghost use Prim.Native.Nat.{ℕ, _+_, _-_, _*_, _≤_, _<_};
 ghost use lib.ListN.{length, getD, take};
 ghost use lib.Dec.{leb, eqb, ltb};
 ghost use mathlib.Core.Bool.{true, not};
-ghost use Rattle.meaning.specs.Numbers.{In, _&_, count};
+ghost use Rattle.meaning.specs.Numbers.{In, _&_};
 ghost use Rattle.meaning.specs.Lists.{place};
 ghost use Rattle.meaning.specs.Endings.{tableOf, within?, sameCells};
 ghost use Rattle.ranks.specs.View.{nOf, mOf, postsOf, marketOf, FullTables};
 ghost use Rattle.stability.specs.Test.{readDepots};
+ghost use Rattle.stability.specs.Search.{Counts};
 ghost use Rattle.reasons.specs.Rows.{OrderRows};
 ghost use Rattle.reasons.specs.Scans.{countIn};
 ghost use Rattle.reasons.specs.Reasons.{settled, aboveOf};
@@ -243,32 +244,19 @@ fn same_cells(a: &[u16], b: &[u16]) -> bool
     true
 }
 
-// How many trainees a table gives depot j.
-fn placed_at(cells: &[u16], j: usize) -> usize
-    requires { ⌜ length (now cells) ≤ 256 ⌝ }
-    ensures { λ r. ⌜ r ≡ count (length (now (cells .entry))) (λ k. eqb (tableOf (now (cells .entry)) k) j) ⌝ }
-{
-    let mut c: usize = 0;
-    let mut k: usize = 0;
-    while k < cells.len() {
-        c = reasons::counted(tables::entry_of(cells, k) == j, c);
-        k += 1;
-    }
-    c
-}
-
 // Whether a table gives no depot more trainees than posts.
-fn within_posts(heads: &[u16], entries: &[u16], cells: &[u16]) -> bool
-    requires { ⌜ FullTables (now heads) (now entries) × (length (now cells) ≡ nOf (now heads)) ⌝ }
+fn within_posts(heads: &[u16], entries: &[u16], cells: &[u16], counts: &[u16; 65]) -> bool
+    requires { ⌜ FullTables (now heads) (now entries) × Counts (tableOf (now cells)) (nOf (now heads)) (now counts) ⌝ }
     ensures { λ r. ⌜ r ≡ within? (marketOf (now (heads .entry)) (now (entries .entry))) (tableOf (now (cells .entry))) ⌝ }
 {
     let m = tables::depots_of(heads);
     let mut k: usize = 0;
     while k < m {
-        if ranks::posts_at(heads, entries, k + 1) < placed_at(cells, k + 1) {
+        let j = k + 1;
+        if ranks::posts_at(heads, entries, j) < reasons::wide(counts[j]) {
             return false;
         }
-        k += 1;
+        k = j;
     }
     true
 }
@@ -323,8 +311,16 @@ fn held_broken(
 }
 
 // Whether the named pair is mutual, everything of the trainee down to the depot is struck, and a table leaves room there.
-fn room_at(heads: &[u16], entries: &[u16], rows: &[u64], cells: &[u16], i: usize, j: usize) -> bool
-    requires { ⌜ FullTables (now heads) (now entries) × In (nOf (now heads)) i × (nOf (now heads) < length (now rows)) × (length (now cells) ≡ nOf (now heads)) ⌝ }
+fn room_at(
+    heads: &[u16],
+    entries: &[u16],
+    rows: &[u64],
+    cells: &[u16],
+    counts: &[u16; 65],
+    i: usize,
+    j: usize,
+) -> bool
+    requires { ⌜ FullTables (now heads) (now entries) × In (nOf (now heads)) i × (nOf (now heads) < length (now rows)) × Counts (tableOf (now cells)) (nOf (now heads)) (now counts) ⌝ }
     ensures { λ r. ⌜ r ≡ roomAt (now (heads .entry)) (now (entries .entry)) (now (rows .entry)) (now (cells .entry)) i j ⌝ }
 {
     if !ranks::is_mutual(heads, entries, i, j) {
@@ -333,7 +329,7 @@ fn room_at(heads: &[u16], entries: &[u16], rows: &[u64], cells: &[u16], i: usize
     if reasons::settled_with(heads, entries, rows, j, i) < 2 {
         return false;
     }
-    placed_at(cells, j) < ranks::posts_at(heads, entries, j)
+    reasons::wide(counts[j]) < ranks::posts_at(heads, entries, j)
 }
 
 // Kind 2: the left table exceeds no posts, and the named pair meets room in it.
@@ -344,10 +340,11 @@ fn room_left(heads: &[u16], entries: &[u16], rows: &[u64], i: usize, j: usize) -
     let n = tables::trainees_of(heads);
     let left = left_table(heads, entries, rows);
     let cells = &left[0..n];
-    if !within_posts(heads, entries, cells) {
+    let counts = stability::counts_of(cells);
+    if !within_posts(heads, entries, cells, &counts) {
         return false;
     }
-    room_at(heads, entries, rows, cells, i, j)
+    room_at(heads, entries, rows, cells, &counts, i, j)
 }
 
 // Whether the stability test found nothing wrong.
