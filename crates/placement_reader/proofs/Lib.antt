@@ -4,4 +4,6 @@ pub mod Parts
 pub mod Below
 pub mod Ways
 pub mod Refusals
+pub mod Alike
+pub mod Keeps
 pub mod Promises
