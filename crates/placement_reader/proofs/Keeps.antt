@@ -63,7 +63,7 @@ module _ {A B : Type 0} (c : ℕ) (p : Reader A) (g : A → Reader B) (local : (
   good-line : Good c (λ s. next (onLine c (p s)) g)
   good-line = record { low = line-low; keeps = line-keeps }
 
-next-next : {A B C : Type 0} (t : Step A) (f : A → Reader B) (g : B → Reader C) → next t (λ a r. next (f a r) g) ≡ next (next t f) g
+pub next-next : {A B C : Type 0} (t : Step A) (f : A → Reader B) (g : B → Reader C) → next t (λ a r. next (f a r) g) ≡ next (next t f) g
 next-next (got a r) f g = refl
 next-next (refusal x l k) f g = refl
 
@@ -116,13 +116,13 @@ module _ (l : ℕ) (K : Opening → Reader (List Order)) (G : (w : Opening) → 
   good-opening = record { low = opening-low; keeps = opening-keeps }
 
 -- by the word, with at most c more pairs
-follow : ℕ → ℕ → ℕ → ℕ → List Order → Opening → Reader (List Order)
+unfoldable pub follow : ℕ → ℕ → ℕ → ℕ → List Order → Opening → Reader (List Order)
 follow zero n m l os (order b) = λ s. refusal 6 l 1
 follow (suc c) n m l os (order b) = λ s. next (onLine l (orderFields n m b s)) (λ o. orders c n m (l + 1) (os ++ o ∷ []))
 follow c n m l os ending = finish l os
 follow c n m l os other = λ s. refusal 3 l 1
 
-follows : (c n m l : ℕ) (os : List Order) (s : List ℕ) → follow c n m l os (openingOf (wordOf s)) (restOf s) ≡ orders c n m l os s
+pub follows : (c n m l : ℕ) (os : List Order) (s : List ℕ) → follow c n m l os (openingOf (wordOf s)) (restOf s) ≡ orders c n m l os s
 unfolding orders follow
 follows zero n m l os s = go (openingOf (wordOf s)) refl
   where
@@ -184,9 +184,9 @@ good-placement : Good 1 placement
 unfolding placement
 good-placement = good-line 1 headFields body head-alike good-body
 
--- ---- the line law's second half
+-- ---- no legal text agrees down to the line refused
 
-step-of : (s : List ℕ) {x l f : ℕ} → length s ≤ 65536 → readText s ≡ refused x l f → placement s ≡ refusal x l f
+pub step-of : (s : List ℕ) {x l f : ℕ} → length s ≤ 65536 → readText s ≡ refused x l f → placement s ≡ refusal x l f
 unfolding readText outcome
 step-of s {x} {l} {f} h e = go (placement s) (rw (le-leb (length s) 65536 h, readText) at e)
   where

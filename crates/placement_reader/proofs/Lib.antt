@@ -6,4 +6,7 @@ pub mod Ways
 pub mod Refusals
 pub mod Alike
 pub mod Keeps
+pub mod Tails
+pub mod Completes
+pub mod LineLaw
 pub mod Promises
