@@ -4,4 +4,9 @@ pub mod Parts
 pub mod Below
 pub mod Ways
 pub mod Refusals
+pub mod Alike
+pub mod Keeps
+pub mod Tails
+pub mod Completes
+pub mod LineLaw
 pub mod Promises

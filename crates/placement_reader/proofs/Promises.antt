@@ -30,6 +30,9 @@ use Rattle.placement_text.proofs.Whole.{read-long}
 use Rattle.placement_reader.specs.Reading.{Reads, reads, reading, readingOf}
 use Rattle.placement_reader.proofs.Ways.{answer-short, answer-read, answer-long}
 use Rattle.placement_reader.proofs.Refusals.{Range, placement-range}
+use Rattle.placement_reader.specs.Agree.{Agree}
+use Rattle.placement_reader.proofs.Keeps.{no-legal-agrees}
+use Rattle.placement_reader.proofs.LineLaw.{LegalAbove, legal-above}
 
 -- ---- a refusal changes no lent cell
 
@@ -148,3 +151,26 @@ module _ (s h e o : List ℕ) where
       go (inr f) l = let z = ap (λ q. numberGiven (q .answer)) (answer-short s h e o f) in absurd (omega arith)
       go (inl t) (inr l) = (t, l)
       go (inl t) (inl l) = let z = read-number t in absurd (⊎-elim (λ q. omega arith) (λ q. omega arith) (text-number s h e o l))
+
+-- ---- numbers 3 to 6: the line law
+
+pub record AtLine (s : List ℕ) (l : ℕ) : Type 0 where
+  pub above : LegalAbove s l
+  pub none-agrees : (p : Placement) → Legal p → Agree l s (textOf p) → ⊥
+
+-- refused 3 to 6 at line l: some legal text agrees with this one on lines 1 to l - 1, and none does on lines 1 to l
+pub line-law : (s h e o : List ℕ) (x l : ℕ) → 3 ≤ x → readingOf s h e o .answer ≡ Reading.Refused (refusal x l) → AtLine s l
+unfolding reading
+line-law s h e o x l high k = go (true-or-false (sized h e o)) (order (length s) 65536)
+  where
+    from : length s ≤ 65536 → (r : Read) → readText s ≡ r → reading r h e o .answer ≡ Reading.Refused (refusal x l) → AtLine s l
+    from w (taken p) d q = let z : _≡_ {A = ℕ} 0 1 = cc in absurd (omega arith)
+    from w (refused a b c) d q =
+        let m : refusal a b ≡ refusal x l = cc in
+        let z : b ≡ l = ap (λ v. v .line) m in
+        subst (AtLine s) z (record { above = legal-above s w d; none-agrees = no-legal-agrees s w d })
+
+    go : (sized h e o ≡ true) ⊎ (sized h e o ≡ false) → (length s ≤ 65536) ⊎ (65536 < length s) → AtLine s l
+    go (inr f) w = let z = ap (λ v. numberGiven (v .answer)) (answer-short s h e o f) ∙ ap numberGiven k in absurd (omega arith)
+    go (inl t) (inr w) = let z = sym (read-number s h e o t ∙ long-number s h e o w) ∙ ap numberGiven k in absurd (omega arith)
+    go (inl t) (inl w) = from w (readText s) refl (ap (λ v. v .answer) (answer-read s h e o t) ∙ k)

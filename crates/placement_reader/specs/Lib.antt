@@ -1,3 +1,4 @@
 -- Reading a placement text into the lent tables.
 pub mod Reading
 pub mod Code
+pub mod Agree

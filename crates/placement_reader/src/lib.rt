@@ -104,7 +104,7 @@ fn read_short(text: &[u8], heads: &mut [u16], entries: &mut [u16], orders: &mut 
 }
 
 // Reads a placement text: taken, with the cells of the placement laid over the fronts of the tables; or refused, with every lent cell as it was
-// (`refused-unchanged`, `legal-read`, `taken-as`, `short-means`, `long-means`, proofs/Promises).
+// (`refused-unchanged`, `legal-read`, `taken-as`, `short-means`, `long-means`, `line-law`, proofs/Promises).
 pub fn read_placement(
     text: &[u8],
     heads: &mut [u16],

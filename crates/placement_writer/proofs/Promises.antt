@@ -1,7 +1,7 @@
 -- What the answers of `write_placement` mean, and the text there and back (document 01, "Numbers given back").
 -- Assumes nothing.
 use Prim.Native.Nat.{ℕ, _≤_, _<_}
-use mathlib.Core.Path.{_≡_, refl, sym, ap, ap₂, _∙_, subst}
+use mathlib.Core.Path.{_≡_, refl, sym, ap, _∙_}
 use mathlib.Core.Logic.{_⊎_, inl, inr}
 use mathlib.Core.Bool.{true, false}
 use mathlib.Core.Option.{Option, none, some}
@@ -10,20 +10,20 @@ use native.Mathlib.Omega.{arith}
 use lib.ListN.{length, take}
 use lib.Seq.{take-append-seam}
 use Rattle.meaning.specs.Answers.{NOT-READ, SHORT-PART, refusal}
-use Rattle.meaning.specs.Placement.{Placement, Legal}
+use Rattle.meaning.specs.Placement.{Placement}
 use Rattle.meaning.specs.declared.Refusal.{Refusal}
 use Rattle.meaning.specs.declared.Reading.{Reading}
 use Rattle.meaning.specs.declared.Writing.{Writing}
-use Rattle.meaning.proofs.Booleans.{true-or-false}
+use Rattle.meaning.proofs.Booleans.{true-or-false, never}
 use Rattle.meaning.proofs.Numbers.{order}
-use Rattle.tables.specs.Cells.{headCells, entryCells, orderCells, laid, Holds}
+use Rattle.tables.specs.Cells.{laid, Holds}
 use Rattle.tables.specs.Decode.{placementOf}
 use Rattle.tables.specs.Answers.{sized}
 use Rattle.tables.proofs.Round.{tables-back, held-decodes, refused-exactly}
 use Rattle.placement_text.specs.Writer.{textOf}
 use Rattle.placement_reader.specs.Reading.{reads, readingOf}
 use Rattle.placement_reader.proofs.Promises.{legal-read, taken-as, taken-sized}
-use Rattle.placement_writer.specs.Writing.{Writes, writes, writing, writingOf}
+use Rattle.placement_writer.specs.Writing.{writes, writing, writingOf}
 use Rattle.placement_writer.proofs.Ways.{answer-short, answer-short-out, answer-tables}
 
 -- ---- a refusal changes no lent cell
@@ -53,6 +53,31 @@ module _ (h e o out : List ℕ) where
       go : Ways → writingOf h e o out ≡ writes (Writing.Refused x) out
       go (too-short q c) = sym q ∙ ap (λ z. writes z out) (ap (λ z. z .answer) q ∙ k)
       go (long-enough q t l) = sym q ∙ writing-refused (placementOf h e o) out (ap (λ z. z .answer) q ∙ k)
+
+  -- ---- number 1, exactly
+
+  pub short-means : writingOf h e o out .answer ≡ Writing.Refused (refusal SHORT-PART 0) → (sized h e o ≡ false) ⊎ (length out < 65536)
+  unfolding writing
+  short-means k = go ways
+    where
+      not-short : (q : Option Placement) → writing q out .answer ≡ Writing.Refused (refusal SHORT-PART 0) → ⊥
+      not-short none a =
+          let y : refusal NOT-READ 0 ≡ refusal SHORT-PART 0 = cc in
+          let z : NOT-READ ≡ SHORT-PART = ap (λ w. w .number) y in
+          omega arith
+      not-short (some p) a = let z : _≡_ {A = ℕ} 0 1 = cc in omega arith
+
+      go : Ways → (sized h e o ≡ false) ⊎ (length out < 65536)
+      go (too-short q c) = c
+      go (long-enough q t l) = absurd (not-short (placementOf h e o) (ap (λ z. z .answer) q ∙ k))
+
+  pub short-when : (sized h e o ≡ false) ⊎ (length out < 65536) → writingOf h e o out ≡ writes (Writing.Refused (refusal SHORT-PART 0)) out
+  short-when c = go (true-or-false (sized h e o)) c
+    where
+      go : (sized h e o ≡ true) ⊎ (sized h e o ≡ false) → (sized h e o ≡ false) ⊎ (length out < 65536) → writingOf h e o out ≡ writes (Writing.Refused (refusal SHORT-PART 0)) out
+      go (inr f) c = sym (answer-short h e o out f)
+      go (inl t) (inl f) = absurd (never t f)
+      go (inl t) (inr l) = sym (answer-short-out h e o out t l)
 
 -- ---- number 8: no text could have been read into these cells
 

@@ -186,7 +186,7 @@ fn put_text(heads: &[u16], entries: &[u16], orders: &[u16], out: &mut [u8]) -> u
 }
 
 // Writes the placement that the tables hold: its text over the front of the output, and how long it is; or refused, with every lent cell as it was
-// (`refused-unchanged`, `unread-means`, `unread-when`, `read-then-written`, `written-then-read`, proofs/Promises).
+// (`refused-unchanged`, `short-means`, `unread-means`, `unread-when`, `read-then-written`, `written-then-read`, proofs/Promises).
 pub fn write_placement(heads: &[u16], entries: &[u16], orders: &[u16], out: &mut [u8]) -> Writing
     ensures { λ r. ⌜ writes r (now (out .exit)) ≡ writingOf (now (heads .entry)) (now (entries .entry)) (now (orders .entry)) (now (out .entry)) ⌝ }
 {
