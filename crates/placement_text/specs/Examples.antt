@@ -115,6 +115,23 @@ small-texts : map (λ c. read (given c)) cases ≡ map wanted cases
 unfolding cases given wanted read placementOf pair
 small-texts = refl
 
+-- ---- bytes that no field has
+
+-- a byte 0 inside a field; spaces where tabs should be; byte 11 for the end of a line
+strayBytes : List (List ℕ)
+strayBytes =
+    (shown "placement 1 0 0" ++ 0 ∷ shown "/end/")
+    ∷ (shown "placement" ++ 32 ∷ 49 ∷ 32 ∷ 48 ∷ 32 ∷ 48 ∷ shown "/end/")
+    ∷ (shown "placement 1 0 0" ++ 11 ∷ shown "end/")
+    ∷ []
+
+strayGive : List Read
+strayGive = refused 3 1 4 ∷ refused 3 1 1 ∷ refused 3 1 4 ∷ []
+
+stray-bytes : map read strayBytes ≡ strayGive
+unfolding read strayBytes strayGive
+stray-bytes = refl
+
 -- ---- texts at the limits
 
 times : ℕ → List ℕ → List ℕ
@@ -136,7 +153,9 @@ fullLists more = shown "placement 1 65 64/" ++ writeLines writeTrainee 1 (replic
 
 limits : List (List ℕ)
 limits =
-    replicate 65537 120
+    replicate 65536 120
+    ∷ replicate 65537 120
+    ∷ (heldTimes 1024 "end/" ++ replicate 65536 10)
     ∷ heldTimes 1024 "end/"
     ∷ heldTimes 1024 "F/"
     ∷ heldTimes 1025 "end/"
@@ -147,7 +166,9 @@ limits =
 
 limitsGive : List Read
 limitsGive =
-    refused 2 0 0
+    refused 3 1 1
+    ∷ refused 2 0 0
+    ∷ refused 2 0 0
     ∷ taken (placementOf (some [] ∷ []) (depot (some 1) (some []) ∷ []) (replicate 1024 (pair held 1 1)))
     ∷ refused 6 1028 1
     ∷ refused 6 1028 1
