@@ -1,29 +1,16 @@
 // Ranks, posts and mutual pairs, read from tables in which everything was received.
 ghost use mathlib.Core.Path.{_≡_};
-ghost use Prim.Native.Nat.{ℕ, _+_, _≤_, _<_};
-ghost use lib.ListN.{length, getD};
 ghost use Rattle.meaning.specs.Numbers.{In};
 ghost use Rattle.meaning.specs.Lists.{place};
 ghost use Rattle.meaning.specs.Market.{mutual?};
-ghost use Rattle.tables.specs.Cells.{part};
 ghost use Rattle.ranks.specs.View.{nOf, mOf, wishesOf, rankingOf, postsOf, marketOf, FullTables};
-
-// The entries of the list whose start and length stand at `at` in the heads.
-fn part_at<'a>(heads: &[u16], entries: &'a [u16], at: usize) -> &'a [u16]
-    requires { ⌜ (at + 1 < length (now heads)) × (getD (now heads) at 0 + getD (now heads) (at + 1) 0 ≤ length (now entries)) ⌝ }
-    ensures { λ r. ⌜ now r ≡ part (now (heads .entry)) (now (entries .entry)) at ⌝ }
-{
-    let start = tables::start_of(heads, at);
-    let end = start + tables::length_of(heads, at);
-    &entries[start..end]
-}
 
 // The list of trainee i.
 pub fn trainee_part<'a>(heads: &[u16], entries: &'a [u16], i: usize) -> &'a [u16]
     requires { ⌜ FullTables (now heads) (now entries) × In (nOf (now heads)) i ⌝ }
     ensures { λ r. ⌜ now r ≡ wishesOf (now (heads .entry)) (now (entries .entry)) i ⌝ }
 {
-    part_at(heads, entries, tables::trainee_at(i))
+    tables::list_at(heads, entries, tables::trainee_at(i))
 }
 
 // The list of depot j.
@@ -32,7 +19,7 @@ pub fn depot_part<'a>(heads: &[u16], entries: &'a [u16], j: usize) -> &'a [u16]
     ensures { λ r. ⌜ now r ≡ rankingOf (now (heads .entry)) (now (entries .entry)) j ⌝ }
 {
     let n = tables::trainees_of(heads);
-    part_at(heads, entries, tables::depot_at(n, j))
+    tables::list_at(heads, entries, tables::depot_at(n, j))
 }
 
 // The posts of depot j.
