@@ -82,12 +82,17 @@ marked-start h e k p l =
     end-of true = refl
     end-of false = refl
 
--- the start rows hold the empty set
-pub start-holds : (h e : List ℕ) (rows : List ℕ) → ((k : ℕ) → In (nOf h) k → getD rows k 0 ≡ startRow h e k)
-    → RowsHold (marketOf h e) (wishesOf h e) (struck nothing []) rows
-unfolding RowsHold startRow marketOf
-start-holds h e rows f k r p l = ap (λ (x : ℕ). isMarked x p) (f k r) ∙ row-where-at (shutAt h e k) p l
+-- the start row marks what is past the list's end or not mutual, and nothing else
+pub start-marks : (h e : List ℕ) (k p : ℕ) → p < 64 → isMarked (startRow h e k) p ≡ markedAt (marketOf h e) (wishesOf h e) (struck nothing []) k p
+unfolding startRow marketOf
+start-marks h e k p l = row-where-at (shutAt h e k) p l
     ∙ ⊎-elim
     (λ (past : length (wishesOf h e k) ≤ p). shut-past h e k p past ∙ sym (marked-past (marketOf h e) (wishesOf h e) (struck nothing []) k p past))
     (λ (inside : p < length (wishesOf h e k)). shut-inside h e k p inside ∙ sym (marked-start h e k p inside))
     (order (length (wishesOf h e k)) p)
+
+-- the start rows hold the empty set
+pub start-holds : (h e : List ℕ) (rows : List ℕ) → ((k : ℕ) → In (nOf h) k → getD rows k 0 ≡ startRow h e k)
+    → RowsHold (marketOf h e) (wishesOf h e) (struck nothing []) rows
+unfolding RowsHold marketOf
+start-holds h e rows f k r p l = ap (λ (x : ℕ). isMarked x p) (f k r) ∙ start-marks h e k p l

@@ -8,11 +8,13 @@ use native.Mathlib.Omega.{arith}
 use lib.ListN.{length, getD}
 use borrow.Author.Tests.{lt-ltb, le-ltb}
 use Rattle.reasons.specs.Scans.{countIn}
-use Rattle.reasons.specs.Rows.{markedAt, RowsHold}
+use Rattle.reasons.specs.Rows.{markedAt, RowsHold, startRow}
+use Rattle.reasons.proofs.Starting.{start-marks}
 use Rattle.meaning.specs.Numbers.{In, bit, _&_}
 use Rattle.meaning.specs.Market.{Market, mutual?}
-use Rattle.meaning.specs.Strikes.{Struck, nothing, left?}
-use Rattle.rows.specs.Marks.{marks}
+use Rattle.meaning.specs.Strikes.{Struck, nothing, struck, left?}
+use Rattle.ranks.specs.View.{nOf, wishesOf, marketOf}
+use Rattle.rows.specs.Marks.{marks, isMarked}
 use Rattle.rows.specs.Left.{countMarks, numberMarked, numberLeft}
 use Rattle.rows.proofs.Marking.{marks-length}
 use Rattle.rows.proofs.Numbers.{marked-and-left}
@@ -55,28 +57,28 @@ struck-and-left K S i (j ∷ l) =
     go true false = refl
     go false s = refl
 
-module _ (K : Market) (lists : ℕ → List ℕ) (S : Struck) (rows : List ℕ) (holds : RowsHold K lists S rows) (i : ℕ) (r : In (K .n) i) (short : length (lists i) ≤ 64) where
-  -- the number left of a row is the number of pairs left
-  pub row-left : numberLeft (getD rows i 0) ≡ countIn (left? K S i) (lists i)
-  unfolding RowsHold markedAt numberMarked _&_
-  row-left =
-      let n = marks-length (getD rows i 0) in
-      let c = marks-and-rest (left? K S i) (lists i) (marks (getD rows i 0)) (omega (arith, n, short)) (record {
-        inside = λ p h. holds i r p (omega (arith, h, short)) ∙ rw (lt-ltb p (length (lists i)) h);
-        past = λ p h k. holds i r p (omega (arith, k, n)) ∙ rw (le-ltb p (length (lists i)) h);
-      }) in
-      omega (arith, c, n, marked-and-left (getD rows i 0))
+-- the number left of a row that marks what S makes of i's list is the number of pairs left
+pub row-left : (K : Market) (lists : ℕ → List ℕ) (S : Struck) (i row : ℕ) → length (lists i) ≤ 64 → ((p : ℕ) → p < 64 → isMarked row p ≡ markedAt K lists S i p)
+    → numberLeft row ≡ countIn (left? K S i) (lists i)
+unfolding markedAt numberMarked _&_
+row-left K lists S i row short marked =
+    let n = marks-length row in
+    let c = marks-and-rest (left? K S i) (lists i) (marks row) (omega (arith, n, short)) (record {
+      inside = λ p h. marked p (omega (arith, h, short)) ∙ rw (lt-ltb p (length (lists i)) h);
+      past = λ p h k. marked p (omega (arith, k, n)) ∙ rw (le-ltb p (length (lists i)) h);
+    }) in
+    omega (arith, c, n, marked-and-left row)
 
--- the ones of a row, less those of the start row, are the pairs struck
-pub row-struck : (K : Market) (lists : ℕ → List ℕ) (S : Struck) (start rows : List ℕ) → RowsHold K lists nothing start → RowsHold K lists S rows
-    → (i : ℕ) → In (K .n) i → length (lists i) ≤ 64
-    → numberMarked (getD rows i 0) ≡ numberMarked (getD start i 0) + countIn (λ j. mutual? K i j & S i j) (lists i)
-row-struck K lists S start rows before after i r short =
+-- the ones of a trainee's row, less those of the start row, are the pairs struck
+pub row-struck : (h e : List ℕ) (S : Struck) (rows : List ℕ) → RowsHold (marketOf h e) (wishesOf h e) S rows → (i : ℕ) → In (nOf h) i → length (wishesOf h e i) ≤ 64
+    → numberMarked (getD rows i 0) ≡ numberMarked (startRow h e i) + countIn (λ j. mutual? (marketOf h e) i j & S i j) (wishesOf h e i)
+unfolding RowsHold marketOf struck
+row-struck h e S rows holds i r short =
     omega (
       arith,
-      row-left K lists S rows after i r short,
-      row-left K lists nothing start before i r short,
-      struck-and-left K S i (lists i),
+      row-left (marketOf h e) (wishesOf h e) S i (getD rows i 0) short (holds i r),
+      row-left (marketOf h e) (wishesOf h e) nothing i (startRow h e i) short (start-marks h e i),
+      struck-and-left (marketOf h e) S i (wishesOf h e i),
       marked-and-left (getD rows i 0),
-      marked-and-left (getD start i 0),
+      marked-and-left (startRow h e i),
     )
