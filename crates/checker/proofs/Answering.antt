@@ -8,7 +8,8 @@ use mathlib.Core.List.{List, []}
 use native.Mathlib.Omega.{arith}
 use lib.ListN.{getD-replicate, length, getD, replicate}
 use Rattle.checker.specs.Turns.{answerFrom, Going, ReplaySays}
-use Rattle.checker.specs.Ends.{endsIn, NamesTrainee, outcomeIn}
+use Rattle.checker.specs.Ends.{endsIn, NamesTrainee}
+use Rattle.rulings.specs.Held.{outcomeIn}
 use Rattle.checker.specs.Check.{ordersOfTable, checkIn, CheckSays}
 use Rattle.checker.proofs.Replaying.{going-ends}
 use Rattle.checker.proofs.Joined.{ending-same}

@@ -15,7 +15,8 @@ use lib.ListN.{length, getD, take}
 use lib.Dec.{ltb, eqb}
 use borrow.Author.Tests.{lt-ltb, eqb-true, eq-eqb, ne-eqb, not-true}
 use Rattle.checker.specs.Step.{ordered}
-use Rattle.checker.specs.Ends.{leftCell, leftCells, obeysRows, allObey, tableFits, placedIn, brokenIn, roomAt, roomIn, endsIn, NamesTrainee, outcomeIn}
+use Rattle.checker.specs.Ends.{leftCell, leftCells, obeysRows, allObey, tableFits, placedIn, brokenIn, roomAt, roomIn, endsIn, NamesTrainee}
+use Rattle.rulings.specs.Held.{outcomeIn}
 use Rattle.checker.proofs.Ways.{and-stops, and-goes}
 use Rattle.checker.proofs.Allowed.{open-same}
 use Rattle.meaning.specs.Numbers.{In, _&_, imp, all}

@@ -9,7 +9,6 @@ use lib.ListN.{length, getD}
 use Rattle.meaning.specs.Placement.{Order, Placement}
 use Rattle.meaning.specs.Full.{Full, whole, full}
 use Rattle.meaning.specs.Market.{standing}
-use Rattle.meaning.specs.Solver.{WholeRuling}
 use Rattle.meaning.specs.Checker.{checkFrom}
 use Rattle.meaning.specs.declared.Ruling.{Ruling}
 use Rattle.meaning.specs.declared.Checked.{Checked}
@@ -19,12 +18,9 @@ use Rattle.ranks.specs.View.{nOf, wishesOf, marketOf}
 use Rattle.reasons.specs.Rows.{standingOf}
 use Rattle.reasons.specs.Orders.{ordersIn}
 use Rattle.strikes.specs.Cells.{strikesIn}
+use Rattle.rulings.specs.Held.{outcomeIn}
 use Rattle.checker.specs.Turns.{TraineesIn, answerFrom}
-use Rattle.checker.specs.Ends.{NamesTrainee, outcomeIn}
-
--- the ruling that its head, a table and the cells of its strikes say
-unfoldable pub rulingIn : Ruling → List ℕ → List ℕ → WholeRuling
-rulingIn r table cells = record { trainees = r .trainees; strikes = strikesIn cells (r .strikes); outcome = outcomeIn (r .trainees) (r .ending) table }
+use Rattle.checker.specs.Ends.{NamesTrainee}
 
 -- a ruling of as many trainees as the tables', with cells for each strike and each trainee, that names trainees of 1 to n
 pub record RulingCells (h : List ℕ) (r : Ruling) (table cells : List ℕ) : Type 0 where

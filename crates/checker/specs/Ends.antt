@@ -7,7 +7,7 @@ use lib.ListN.{getD, take}
 use lib.Dec.{ltb, eqb}
 use Rattle.meaning.specs.Numbers.{In, _&_, imp, all}
 use Rattle.meaning.specs.Market.{mutual?, placed}
-use Rattle.meaning.specs.Endings.{Outcome, placed-by, none-held, none-room, tableOf, within?, stable?, sameCells}
+use Rattle.meaning.specs.Endings.{tableOf, within?, stable?, sameCells}
 use Rattle.meaning.specs.declared.Ending.{Ending}
 use Rattle.meaning.specs.declared.Ending.the-variants.{Placed, NoneHeld, NoneRoom}
 use Rattle.meaning.specs.declared.Tested.{Tested}
@@ -80,10 +80,3 @@ abbrev pub NamesTrainee : ℕ → Ending → Type 0
 NamesTrainee n Placed = Unit {0}
 NamesTrainee n (NoneHeld i j) = In n i
 NamesTrainee n (NoneRoom i j) = In n i
-
--- ---- the outcome of an ending beside its table; without a table none of its cells is used
-
-unfoldable pub outcomeIn : ℕ → Ending → List ℕ → Outcome
-outcomeIn n Placed table = placed-by (take n table)
-outcomeIn n (NoneHeld i j) table = none-held i j
-outcomeIn n (NoneRoom i j) table = none-room i j

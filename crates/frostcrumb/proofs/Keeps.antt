@@ -17,7 +17,8 @@ use Rattle.meaning.proofs.Booleans.{some-own}
 use Rattle.meaning.proofs.Demands.{solver-keeps}
 use Rattle.tables.specs.Decode.{placementOf}
 use Rattle.tables.proofs.Round.{tables-back}
-use Rattle.solver.specs.Answer.{Given, refusing, roomy, solveIfFull, solveIfRead, solveOf}
+use Rattle.solver.specs.Answer.{Given, refusing, solveIfFull, solveIfRead, solveOf}
+use Rattle.rulings.specs.Held.{roomy}
 use Rattle.frostcrumb.specs.Solve.{Left, leaving, leavingIf, solving}
 use Rattle.frostcrumb.specs.Keeps.{SolveKeeps}
 

@@ -12,7 +12,7 @@ use Rattle.meaning.specs.Demands.{SolverKeeps}
 use Rattle.meaning.specs.declared.Strike.{Strike}
 use Rattle.meaning.specs.declared.Ruling.{Ruling}
 use Rattle.tables.specs.Decode.{placementOf}
-use Rattle.solver.specs.Solved.{tableAfter}
+use Rattle.rulings.specs.Held.{tableAfter}
 use Rattle.frostcrumb.specs.Solve.{Left}
 
 -- r is the ruling for the tables h, e, o of a placement; it left the table t and the record log as l says

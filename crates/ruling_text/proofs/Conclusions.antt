@@ -20,7 +20,7 @@ use Rattle.fields.specs.Reader.{got, refusal, line, first, lineEnd, keyword, at
 use Rattle.fields.proofs.Steps.{refusal-not-got, unless-back, unless-there}
 use Rattle.fields.proofs.Positions.{byte-drop}
 use Rattle.ruling_text.specs.Words.{word-N}
-use Rattle.ruling_text.specs.Legal.{LegalOutcome, legal-table, legal-held, legal-room}
+use Rattle.rulings.specs.Legal.{LegalOutcome, legal-table, legal-held, legal-room}
 use Rattle.ruling_text.specs.Reader.{Pair, pair, weightless, cellLine, noneOf, noneFields, table, outcome, linesOf, endFields, finish, conclusion}
 use Rattle.ruling_text.specs.Cells.{joined, tableCells}
 use Rattle.ruling_text.specs.Code.{Numbered, pairNumbers, cellNumbers, Filled, Concluded, endingLines, Ends}

@@ -1,5 +1,4 @@
 -- The ruling text there and back, and the test of a ruling.
-pub mod Decides
 pub mod Strikes
 pub mod Outcomes
 pub mod Short

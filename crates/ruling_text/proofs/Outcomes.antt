@@ -18,7 +18,7 @@ use Rattle.fields.proofs.Steps.{refusal-not-got, went, got-value, got-rest, on-
 use Rattle.fields.proofs.Words.{Word, stops, word-there, rest-there, word-rest, same-eq, same-refl, end-there, end-back, keyword-there, keyword-back, number-stops, lf-stops, number-there, number-back, running-there, running-back}
 use Rattle.fields.proofs.Lines.{Line, lines-there, lines-back}
 use Rattle.ruling_text.specs.Words.{word-A, word-N}
-use Rattle.ruling_text.specs.Legal.{DEPOTS, LegalOutcome, legal-table, legal-held, legal-room}
+use Rattle.rulings.specs.Legal.{DEPOTS, LegalOutcome, legal-table, legal-held, legal-room}
 use Rattle.ruling_text.specs.Writer.{writeNumbers, writeLine, writeCell, writeNone, writeOutcome, writeEnd}
 use Rattle.ruling_text.specs.Reader.{Pair, pair, weightless, cellFields, cellLine, noneOf, noneFields, table, outcome, linesOf, endFields, finish, conclusion}
 use Rattle.ruling_text.proofs.Strikes.{weightless-sum, pair-there, pair-back}

@@ -17,7 +17,7 @@ use Rattle.fields.specs.Bytes.{TAB, LF, wordOf, restOf, same, word-end}
 use Rattle.fields.specs.Number.{numberOf}
 use Rattle.fields.specs.Reader.{Step, got, refusal, Reader, next, onLine, unless, first, field, lineEnd, keyword, atEnd, formed, figure, number, running, lines}
 use Rattle.ruling_text.specs.Words.{word-ruling, word-S, word-A, word-N}
-use Rattle.ruling_text.specs.Legal.{DEPOTS, STRIKES}
+use Rattle.rulings.specs.Legal.{DEPOTS, STRIKES}
 use Rattle.ruling_text.specs.Reader.{pair, lowWitness, highWitness, reason, strikeFields, strikeLine, weightless, cellFields, cellLine, noneFields, table, outcome, linesOf, endFields, finish, conclusion, Head, sizes, headFields, body, ruling, refused, answer, readRuling}
 
 -- wrong form, or a number outside its range

@@ -19,7 +19,7 @@ use Rattle.fields.proofs.Steps.{went, got-value, got-rest, on-line}
 use Rattle.fields.proofs.Words.{Word, end-there, end-back, keyword-there, keyword-back, number-stops, lf-stops, number-there, number-back, running-there, running-back}
 use Rattle.fields.proofs.Lines.{lines-there, lines-back}
 use Rattle.ruling_text.specs.Words.{word-ruling}
-use Rattle.ruling_text.specs.Legal.{STRIKES, LegalStrike, LegalRuling}
+use Rattle.rulings.specs.Legal.{STRIKES, LegalStrike, LegalRuling}
 use Rattle.ruling_text.specs.Writer.{writeNumbers, writeLine, writeStrike, writeOutcome, writeHead, writeEnd, rulingText}
 use Rattle.ruling_text.specs.Reader.{strikeLine, weightless, conclusion, Head, sizes, headFields, body, ruling, taken, answer, readRuling}
 use Rattle.ruling_text.proofs.Strikes.{weightless-sum, strike-there, strike-back}

@@ -10,7 +10,7 @@ use Rattle.meaning.specs.Answers.{reasonNumber, reasonWitness, strikeNumbers}
 use Rattle.meaning.specs.Endings.{Outcome, placed-by}
 use Rattle.meaning.specs.Solver.{WholeRuling, endingOf, headOf}
 use Rattle.meaning.specs.declared.Strike.{Strike}
-use Rattle.ruling_text.specs.Legal.{LegalOutcome, legal-table, legal-held, legal-room, LegalRuling}
+use Rattle.rulings.specs.Legal.{LegalOutcome, legal-table, legal-held, legal-room, LegalRuling}
 use Rattle.ruling_text.specs.Reader.{reasonOf, refused, readRuling}
 use Rattle.ruling_text.specs.Cells.{joined, strikeCells, tableCells, strikeAt, strikesFrom, strikesIn, outcomeIn, rulingIn, Held}
 use Rattle.ruling_text.specs.Code.{Laid, TextTaken, endingCells, answered, answeredBy}

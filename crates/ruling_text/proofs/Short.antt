@@ -17,7 +17,7 @@ use Rattle.meaning.specs.declared.Reason.{Reason}
 use Rattle.meaning.specs.declared.Strike.{Strike}
 use Rattle.fields.specs.Writer.{writeNumber, writeLines}
 use Rattle.fields.proofs.Digits.{tenTo, digits-at-most}
-use Rattle.ruling_text.specs.Legal.{DEPOTS, LegalReason, legal-barred, legal-elsewhere, legal-gone, legal-passed, LegalStrike, LegalOutcome, legal-table, legal-held, legal-room, LegalRuling}
+use Rattle.rulings.specs.Legal.{DEPOTS, LegalReason, legal-barred, legal-elsewhere, legal-gone, legal-passed, LegalStrike, LegalOutcome, legal-table, legal-held, legal-room, LegalRuling}
 use Rattle.ruling_text.specs.Writer.{writeNumbers, writeLine, writeStrike, writeCell, writeNone, writeOutcome, writeHead, rulingText}
 
 -- ---- a number with its tab, by how many digits it has

@@ -19,7 +19,7 @@ use Rattle.fields.proofs.Steps.{went, got-value, got-rest, on-line}
 use Rattle.fields.proofs.Words.{Word, stops, end-there, end-back, keyword-there, keyword-back, number-stops, lf-stops, number-there, number-back}
 use Rattle.fields.proofs.Lines.{Line}
 use Rattle.ruling_text.specs.Words.{word-S}
-use Rattle.ruling_text.specs.Legal.{DEPOTS, LegalReason, legal-barred, legal-elsewhere, legal-gone, legal-passed, LegalStrike}
+use Rattle.rulings.specs.Legal.{DEPOTS, LegalReason, legal-barred, legal-elsewhere, legal-gone, legal-passed, LegalStrike}
 use Rattle.ruling_text.specs.Writer.{writeNumbers, writeLine, writeStrike}
 use Rattle.ruling_text.specs.Reader.{Pair, pair, lowWitness, highWitness, reasonOf, reason, strikeFields, strikeLine, weightless}
 

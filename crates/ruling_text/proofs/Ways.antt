@@ -10,7 +10,7 @@ use Rattle.meaning.specs.Answers.{strikeNumbers}
 use Rattle.meaning.specs.declared.Reason.{Reason}
 use Rattle.fields.specs.Reader.{got, refusal, lineEnd, keyword, number, running}
 use Rattle.ruling_text.specs.Words.{word-ruling, word-S, word-A}
-use Rattle.ruling_text.specs.Legal.{DEPOTS, STRIKES}
+use Rattle.rulings.specs.Legal.{DEPOTS, STRIKES}
 use Rattle.ruling_text.specs.Reader.{Pair, pair, lowWitness, highWitness, reasonOf, reason, strikeFields, cellFields, sizes, headFields}
 use Rattle.ruling_text.specs.Code.{Numbered, pairNumbers, reasonNumbers}
 use Rattle.fields.proofs.Words.{number-back}

@@ -10,7 +10,7 @@ use Rattle.meaning.specs.Solver.{headOf}
 use Rattle.meaning.specs.declared.Ending.{Ending}
 use Rattle.fields.specs.Reader.{refusal, lines}
 use Rattle.fields.proofs.Lines.{lines-back}
-use Rattle.ruling_text.specs.Legal.{STRIKES, LegalStrike}
+use Rattle.rulings.specs.Legal.{STRIKES, LegalStrike}
 use Rattle.ruling_text.specs.Writer.{writeStrike}
 use Rattle.ruling_text.specs.Reader.{strikeLine, weightless, conclusion, headFields, body, ruling, refused, answer, readRuling}
 use Rattle.ruling_text.specs.Cells.{strikeCells}

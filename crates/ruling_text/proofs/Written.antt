@@ -14,7 +14,7 @@ use Rattle.fields.specs.Writer.{writeNumber, writeLines}
 use Rattle.fields.specs.Leaves.{Put}
 use Rattle.fields.proofs.Puts.{put-then, put-as, put-length}
 use Rattle.ruling_text.specs.Words.{word-A}
-use Rattle.ruling_text.specs.Legal.{LegalOutcome, legal-table}
+use Rattle.rulings.specs.Legal.{LegalOutcome, legal-table}
 use Rattle.ruling_text.specs.Writer.{writeNumbers, writeLine, writeCell}
 
 module _ {A : Type 0} (f : ℕ → A → List ℕ) where

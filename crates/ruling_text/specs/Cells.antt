@@ -10,7 +10,7 @@ use Rattle.meaning.specs.Solver.{WholeRuling}
 use Rattle.meaning.specs.declared.Strike.{Strike}
 use Rattle.meaning.specs.declared.Ending.{Ending}
 use Rattle.meaning.specs.declared.Ending.the-variants.{Placed, NoneHeld, NoneRoom}
-use Rattle.ruling_text.specs.Legal.{LegalRuling}
+use Rattle.rulings.specs.Legal.{LegalRuling}
 use Rattle.ruling_text.specs.Reader.{reasonOf}
 
 unfoldable pub joined : {A : Type 0} → (A → List ℕ) → List A → List ℕ

@@ -18,7 +18,7 @@ use Rattle.fields.specs.Number.{digits, digitsOf, digit?, value, leads, numberO
 use Rattle.fields.specs.Reader.{unless, first, field, lineEnd, keyword, atEnd, formed, figure, number, running, lines}
 use Rattle.fields.specs.Writer.{writeNumber, writeLines}
 use Rattle.fields.specs.Shown.{shown}
-use Rattle.ruling_text.specs.Legal.{every?, in?, legalReason?, legalStrike?, legalOutcome?, legalRuling?}
+use Rattle.rulings.specs.Legal.{every?, in?, legalReason?, legalStrike?, legalOutcome?, legalRuling?}
 use Rattle.ruling_text.specs.Writer.{writeNumbers, writeLine, writeStrike, writeCell, writeNone, writeOutcome, writeHead, rulingText}
 use Rattle.ruling_text.specs.Reader.{pair, lowWitness, highWitness, reasonOf, reason, strikeFields, strikeLine, weightless, cellFields, cellLine, noneOf, noneFields, table, outcome, linesOf, endFields, finish, conclusion, sizes, headFields, body, ruling, Read, taken, refused, answer, readRuling}
 

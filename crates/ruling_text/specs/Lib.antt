@@ -1,6 +1,5 @@
 -- The ruling text: which rulings it can say, how it is written and how it is read.
 pub mod Words
-pub mod Legal
 pub mod Writer
 pub mod Reader
 pub mod Cells

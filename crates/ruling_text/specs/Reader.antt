@@ -13,7 +13,7 @@ use Rattle.meaning.specs.declared.Strike.{Strike}
 use Rattle.fields.specs.Bytes.{wordOf, restOf, same, word-end}
 use Rattle.fields.specs.Reader.{Step, got, refusal, Reader, _>>=_, _>>_, pure, line, lineEnd, keyword, atEnd, number, running, lines}
 use Rattle.ruling_text.specs.Words.{word-ruling, word-S, word-A, word-N}
-use Rattle.ruling_text.specs.Legal.{DEPOTS, STRIKES}
+use Rattle.rulings.specs.Legal.{DEPOTS, STRIKES}
 
 -- ---- a pair
 

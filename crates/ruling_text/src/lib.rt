@@ -7,7 +7,7 @@ ghost use lib.Seq.{sets};
 ghost use Rattle.fields.specs.Leaves.{Put};
 ghost use Rattle.fields.specs.Reader.{lines};
 ghost use Rattle.fields.specs.Writer.{writeLines};
-ghost use Rattle.ruling_text.specs.Legal.{LegalOutcome};
+ghost use Rattle.rulings.specs.Legal.{LegalOutcome};
 ghost use Rattle.meaning.specs.Answers.{strikeNumbers};
 ghost use Rattle.meaning.specs.Solver.{endingOf};
 ghost use Rattle.ruling_text.specs.Reader.{pair, lowWitness, highWitness, reason, strikeFields, strikeLine, cellFields, cellLine, weightless, noneOf, noneFields, outcome, finish, conclusion, body, sizes, headFields, readRuling};

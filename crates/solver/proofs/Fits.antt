@@ -8,7 +8,8 @@ use mathlib.Core.List.{List}
 use native.Mathlib.Omega.{arith}
 use lib.ListN.{length}
 use borrow.Author.Tests.{leb-true}
-use Rattle.solver.specs.Answer.{Given, refusing, roomy, solveIfFull, solveIfRead, solveOf}
+use Rattle.solver.specs.Answer.{Given, refusing, solveIfFull, solveIfRead, solveOf}
+use Rattle.rulings.specs.Held.{roomy}
 use Rattle.solver.proofs.Lawful.{pairs-few}
 use Rattle.solver.proofs.Whole.{orders-fine}
 use Rattle.solver.proofs.Guards.{ReadTables, read-tables}

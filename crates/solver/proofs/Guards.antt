@@ -9,7 +9,8 @@ use lib.ListN.{length}
 use lib.Dec.{leb}
 use borrow.Author.Tests.{leb-true}
 use Rattle.solver.specs.Solved.{SolvedAs}
-use Rattle.solver.specs.Answer.{roomy, solveIfFull, solveIfRead, solveOf, givenBy}
+use Rattle.solver.specs.Answer.{solveIfFull, solveIfRead, solveOf, givenBy}
+use Rattle.rulings.specs.Held.{roomy}
 use Rattle.solver.proofs.Whole.{full-orders, orders-fine}
 use Rattle.meaning.specs.Numbers.{_&_}
 use Rattle.meaning.specs.Placement.{Placement}
@@ -31,29 +32,6 @@ use Rattle.ranks.specs.View.{FullTables}
 use Rattle.ranks.proofs.Held.{full-tables}
 use Rattle.reasons.specs.Orders.{FullOrders}
 use Rattle.strikes.specs.Cells.{strikesIn, recorded}
-
--- ---- number 1
-
-module _ (h e o : List ℕ) (cells room : ℕ) where
-  pub part-short : sized h e o ≡ false → false ≡ roomy h e o cells room
-  unfolding roomy _&_
-  part-short u = rw u
-
-  pub table-short : sized h e o ≡ true → leb 256 cells ≡ false → false ≡ roomy h e o cells room
-  unfolding roomy _&_
-  table-short k u = rw (k, u)
-
-  pub record-long : sized h e o ≡ true → leb 256 cells ≡ true → leb 4096 room ≡ roomy h e o cells room
-  unfolding roomy _&_
-  record-long k l = rw (k, l)
-
-pub record LongParts (h e o : List ℕ) (cells : ℕ) : Type 0 where
-  pub tables : Sizes h e o
-  pub table : 256 ≤ cells
-
-pub long-parts : (h e o : List ℕ) (cells room : ℕ) → roomy h e o cells room ≡ true → LongParts h e o cells
-unfolding roomy
-long-parts h e o cells room k = record { tables = sizes h e o (and-left _ _ k); table = leb-true _ _ (and-left _ _ (and-right (sized h e o) _ k)) }
 
 -- ---- the answers
 

@@ -10,7 +10,8 @@ use lib.ListN.{length, getD, take, drop, replicate, getD-replicate}
 use lib.Seq.{take-append-le, take-all}
 use Rattle.solver.specs.Going.{Going, Came, visitOf}
 use Rattle.solver.specs.Ends.{struckIn, brokenPair, roomOf, leftBy, Kept, Counted}
-use Rattle.solver.specs.Solved.{ordersAll, strikesFor, AllStruck, endingBy, endingIn, tableAfter, tableBy, SolvedAs}
+use Rattle.solver.specs.Solved.{ordersAll, strikesFor, AllStruck, endingBy, endingIn, tableBy, SolvedAs}
+use Rattle.rulings.specs.Held.{tableAfter}
 use Rattle.solver.proofs.Lawful.{lawful-tables, listed-tables, nothing-mutual, pairs-few}
 use Rattle.solver.proofs.Ending.{struck-in}
 use Rattle.meaning.specs.Numbers.{In}

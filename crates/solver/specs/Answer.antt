@@ -6,7 +6,7 @@ use mathlib.Core.Option.{Option, none, some}
 use mathlib.Core.List.{List, []}
 use lib.ListN.{length}
 use lib.Dec.{leb}
-use Rattle.solver.specs.Solved.{tableAfter}
+use Rattle.rulings.specs.Held.{tableAfter, roomy}
 use Rattle.meaning.specs.Numbers.{_&_}
 use Rattle.meaning.specs.Placement.{Placement}
 use Rattle.meaning.specs.Full.{Received, whole, lacking}
@@ -27,12 +27,6 @@ pub record Given : Type 0 where
 -- a refusal leaves the table as it was and records nothing
 abbrev pub refusing : ℕ → ℕ → List ℕ → Given
 refusing number line t = record { answer = Ruled.Refused (refusal number line); table = t; strikes = [] }
-
--- ---- number 1
-
--- each lent part has the full size of its table, and the record has room for 4,096 strikes
-unfoldable pub roomy : List ℕ → List ℕ → List ℕ → ℕ → ℕ → Bool
-roomy h e o cells room = sized h e o & (leb 256 cells & leb 4096 room)
 
 -- ---- the answer
 

@@ -12,6 +12,7 @@ use Rattle.meaning.specs.Strikes.{nothing, struck, mutualPairs}
 use Rattle.meaning.specs.Endings.{Outcome, placed-by, none-held, none-room, firstBroken, roomFrom}
 use Rattle.meaning.specs.Solver.{sweepsBy, visit, WholeRuling, endingOf, headOf}
 use Rattle.tables.specs.Cells.{laid}
+use Rattle.rulings.specs.Held.{tableAfter}
 use Rattle.ranks.specs.View.{nOf, mOf, wishesOf, marketOf}
 use Rattle.reasons.specs.Orders.{ordersIn}
 use Rattle.strikes.specs.Cells.{strikesIn}
@@ -46,13 +47,7 @@ endingIn h e o rows =
     endingBy (firstBroken (marketOf h e) (struckIn h e rows) (ordersAll o))
     (roomFrom (marketOf h e) (struckIn h e rows) (leftBy h e rows) (mOf h) 1)
 
--- a ruling's table over the front of a table; a none leaves the table as it is
-unfoldable pub tableAfter : Outcome → List ℕ → List ℕ
-tableAfter (placed-by l) t = laid l t
-tableAfter (none-held i j) t = t
-tableAfter (none-room i j) t = t
-
--- the same by the ending, where l is the left table
+-- the table after an ending, where l is the left table
 unfoldable pub tableBy : Ending → List ℕ → List ℕ → List ℕ
 tableBy Ending.Placed l t = laid l t
 tableBy (Ending.NoneHeld i j) l t = t

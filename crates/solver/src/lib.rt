@@ -21,7 +21,7 @@ ghost use Rattle.meaning.specs.Solver.{WholeRuling, solve};
 ghost use Rattle.tables.specs.Decode.{placementOf};
 ghost use Rattle.solver.specs.Going.{Going, Came, visitOf};
 ghost use Rattle.solver.specs.Solved.{AllStruck, endingIn, tableBy, SolvedAs};
-ghost use Rattle.solver.specs.Answer.{roomy, solveOf, givenBy};
+ghost use Rattle.solver.specs.Answer.{solveOf, givenBy};
 ghost use Rattle.solver.specs.Ends.{struckIn, leftIn, brokenIn, brokenPair, roomOf, leftBy, Kept, Counted};
 use meaning::Ending;
 use meaning::Refusal;
@@ -334,19 +334,6 @@ pub fn solve_cells(
     }
 }
 
-// Whether each lent part has the full size of its table, and the record room for every strike.
-fn has_room(heads: &[u16], entries: &[u16], orders: &[u16], cells: usize, room: usize) -> bool
-    ensures { λ r. ⌜ r ≡ roomy (now (heads .entry)) (now (entries .entry)) (now (orders .entry)) cells room ⌝ }
-{
-    if !tables::sizes_ok(heads, entries, orders) {
-        return false;
-    }
-    if cells < 256 {
-        return false;
-    }
-    4096 <= room
-}
-
 // The solver on lent tables and plain cells, for a record with room for so many strikes: refusals 1, 8 and 7, else the ruling.
 pub fn solve_lent(
     heads: &[u16],
@@ -359,7 +346,7 @@ pub fn solve_lent(
     requires { ⌜ length (now cells) ≡ 16384 ⌝ }
     ensures { λ r. ⌜ solveOf (now (heads .entry)) (now (entries .entry)) (now (orders .entry)) (now (table .entry)) room ≡ some (givenBy r (now (table .exit)) (now (cells .exit))) ⌝ }
 {
-    if !has_room(heads, entries, orders, table.len(), room) {
+    if !rulings::has_room(heads, entries, orders, table.len(), room) {
         return Ruled::Refused(Refusal { number: 1, line: 0 });
     }
     if !tables::used_cells_ok(heads, entries, orders) {

@@ -4,7 +4,7 @@ use mathlib.Core.Path.{sym, ap, subst}
 use lib.ListN.{length}
 use borrow.Author.Needs.{needs}
 use Rattle.fields.proofs.Puts.{put-as}
-use Rattle.ruling_text.specs.Legal.{LegalOutcome}
+use Rattle.rulings.specs.Legal.{LegalOutcome}
 use Rattle.ruling_text.specs.Writer.{writeOutcome, writeNone}
 use Rattle.ruling_text.specs.Cells.{outcomeIn}
 use Rattle.ruling_text.proofs.Written.{table-cells, table-long}

@@ -4,7 +4,8 @@ use native.Mathlib.Omega.{arith}
 use borrow.Author.Needs.{needs}
 use borrow.Author.Tests.{not-true, not-false}
 use Rattle.stability.proofs.Guards.{head-room}
-use Rattle.solver.proofs.Guards.{long-parts, solve-short, solve-unread, read-tables, solve-lacking, ready, solve-whole}
+use Rattle.rulings.proofs.Sizes.{long-parts}
+use Rattle.solver.proofs.Guards.{solve-short, solve-unread, read-tables, solve-lacking, ready, solve-whole}
 use Rattle.solver.proofs.solve_lent.Statement.{statement}
 use Rattle.solver.proofs.solve_lent.Tie as tie
 

@@ -2,9 +2,9 @@
 use mathlib.Core.Path.{sym, _∙_}
 use borrow.Author.Needs.{needs}
 use borrow.Author.Tests.{not-true, not-false, lt-leb, le-leb}
-use Rattle.solver.proofs.Guards.{part-short, table-short, record-long}
-use Rattle.solver.proofs.has_room.Statement.{statement}
-use Rattle.solver.proofs.has_room.Tie as tie
+use Rattle.rulings.proofs.Sizes.{part-short, table-short, record-long}
+use Rattle.rulings.proofs.has_room.Statement.{statement}
+use Rattle.rulings.proofs.has_room.Tie as tie
 
 sizes-ok-requires : tie.Need-sizes-ok-requires
 sizes-ok-requires c κs = search needs

@@ -15,7 +15,7 @@ use Rattle.meaning.specs.declared.Reason.{Reason}
 use Rattle.meaning.specs.declared.Reason.the-variants.{Barred, HeldElsewhere, PostsGone, Passed}
 use Rattle.meaning.specs.declared.Strike.{Strike}
 use Rattle.meaning.proofs.Booleans.{and-left, and-right, and-intro}
-use Rattle.ruling_text.specs.Legal.{DEPOTS, STRIKES, LegalReason, legal-barred, legal-elsewhere, legal-gone, legal-passed, LegalStrike, LegalOutcome, legal-table, legal-held, legal-room, LegalRuling, every?, in?, legalReason?, legalStrike?, legalOutcome?, legalRuling?}
+use Rattle.rulings.specs.Legal.{DEPOTS, STRIKES, LegalReason, legal-barred, legal-elsewhere, legal-gone, legal-passed, LegalStrike, LegalOutcome, legal-table, legal-held, legal-room, LegalRuling, every?, in?, legalReason?, legalStrike?, legalOutcome?, legalRuling?}
 
 -- a test of one element that says P, over a list
 module _ {A : Type 0} {P : A → Type 0} (f : A → Bool) where

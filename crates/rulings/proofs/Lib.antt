@@ -1,0 +1,3 @@
+-- What follows for rulings in memory.
+pub mod Decides
+pub mod Sizes
