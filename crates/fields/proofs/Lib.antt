@@ -2,6 +2,7 @@
 pub mod Digits
 pub mod Steps
 pub mod Words
+pub mod Parted
 pub mod Lines
 pub mod Positions
 pub mod Puts

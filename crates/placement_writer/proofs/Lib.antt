@@ -4,3 +4,4 @@ pub mod Lines
 pub mod Held
 pub mod Ways
 pub mod Promises
+pub mod Marked
