@@ -8,6 +8,7 @@ pub mod Counting
 pub mod Complete
 pub mod Answers
 pub mod Full
+pub mod Entries
 pub mod Left
 pub mod Matchings
 pub mod Records

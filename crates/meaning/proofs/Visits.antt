@@ -25,11 +25,12 @@ pub data Choice (K : Market) (O : Standing) (S : Struck) (i j : ℕ) : Option Re
   no-reason : ((r : Reason) → fits K O S i j r ≡ false) → Choice K O S i j none
 
 module _ (K : Market) (O : Standing) (lawful : Lawful K O) (S : Struck) (i j : ℕ) where
-  elsewhere-in : (j′ : ℕ) → fits K O S i j (HeldElsewhere j′) ≡ true → In (K .m) j′
+  -- the depot or the trainee that a reason names is one
+  pub elsewhere-in : (j′ : ℕ) → fits K O S i j (HeldElsewhere j′) ≡ true → In (K .m) j′
   unfolding fits
   elsewhere-in j′ t = lawful .orders .held-depot i j′ (and-left _ _ t)
 
-  passed-in : (k : ℕ) → fits K O S i j (Passed k) ≡ true → In (K .n) k
+  pub passed-in : (k : ℕ) → fits K O S i j (Passed k) ≡ true → In (K .n) k
   unfolding fits
   passed-in k t = lawful .ranged .trainee-in k j (ahead-pair K i j k (and-left _ _ t) .ranks)
 

@@ -1,8 +1,8 @@
 -- The strikes of every answer fit into the record and into the cells.
 -- Assumes nothing.
 use Prim.Native.Nat.{ℕ, _≤_}
-use mathlib.Core.Path.{_≡_, refl, sym, ap, _∙_, subst}
-use mathlib.Core.Bool.{Bool, true, false, false≢true}
+use mathlib.Core.Path.{_≡_, refl, sym, _∙_, subst}
+use mathlib.Core.Bool.{Bool, true, false}
 use mathlib.Core.Option.{Option, none, some}
 use mathlib.Core.List.{List}
 use native.Mathlib.Omega.{arith}
@@ -10,21 +10,15 @@ use lib.ListN.{length}
 use borrow.Author.Tests.{leb-true}
 use Rattle.solver.specs.Answer.{Given, refusing, solveIfFull, solveIfRead, solveOf}
 use Rattle.rulings.specs.Held.{roomy}
-use Rattle.solver.proofs.Lawful.{pairs-few}
-use Rattle.solver.proofs.Whole.{orders-fine}
-use Rattle.solver.proofs.Guards.{ReadTables, read-tables}
 use Rattle.meaning.specs.Placement.{Placement}
 use Rattle.meaning.specs.Full.{Full, Received, whole, lacking, andThen, full}
 use Rattle.meaning.specs.Solver.{WholeRuling, solve, ruled}
-use Rattle.meaning.specs.Strikes.{mutualPairs}
 use Rattle.meaning.specs.Answers.{SHORT-PART, NOT-RECEIVED, NOT-READ}
 use Rattle.meaning.proofs.Booleans.{and-right, some-own}
-use Rattle.meaning.proofs.Solver.{few-strikes, solved}
 use Rattle.tables.specs.Answers.{sized}
 use Rattle.tables.specs.Decode.{placementOf}
-use Rattle.tables.specs.Walk.{isSome}
-use Rattle.tables.proofs.Views.{tables-seen}
-use Rattle.ranks.proofs.Held.{market-held, full-tables}
+use Rattle.tables.proofs.Round.{tables-back}
+use Rattle.rulings.proofs.Solved.{solved-legal}
 
 pub record Fits (room : ℕ) (g : Given) : Type 0 where
   pub in-record : length (g .strikes) ≤ room
@@ -38,18 +32,8 @@ module _ (h e o t : List ℕ) (room : ℕ) where
   unfolding roomy
   long-record k = leb-true _ _ (and-right _ _ (and-right (sized h e o) _ k))
 
-  -- a ruling's strikes are no more than there are mutual pairs
   few : (p : Placement) (F : Full) → placementOf h e o ≡ some p → full p ≡ whole F → (w : WholeRuling) → solve F (p .orders) ≡ some w → length (w .strikes) ≤ 4096
-  few p F k l w q =
-      let seen = tables-seen h e o p F k l in
-      let fine = orders-fine h e o F (p .orders) seen in
-      omega (
-        arith,
-        ap length (solved F (seen .sides .legal) (p .orders) fine w q .strikes),
-        few-strikes F (seen .sides .legal) (p .orders) fine,
-        ap mutualPairs (market-held h e F (seen .sides)),
-        pairs-few h e (full-tables h e F (seen .sides)),
-      )
+  few p F k l w q = solved-legal p F (tables-back h e o p k .legal) l w q .few-strikes
 
   pub given-fits : (g : Given) → solveOf h e o t room ≡ some g → Fits room g
   unfolding solveOf solveIfRead solveIfFull ruled andThen

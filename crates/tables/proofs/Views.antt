@@ -11,13 +11,14 @@ use lib.ListN.{length, getD, drop, length-append, List·getD-eq-default}
 use lib.Dec.{eqb}
 use borrow.Author.Tests.{eq-eqb, ne-eqb}
 use Rattle.meaning.specs.Numbers.{In, sum}
-use Rattle.meaning.specs.Lists.{member, place, Distinct, distinct-none, distinct-more, Each, each-none, each-more, weigh}
-use Rattle.meaning.specs.Placement.{Order, depot, Placement, size, depotSize, some-posts, LegalDepot, legal-depot, LegalOrder, Legal}
+use Rattle.meaning.specs.Lists.{member, place, Distinct, distinct-none, distinct-more, Each, each-none, each-more}
+use Rattle.meaning.specs.Placement.{Order, depot, Placement, some-posts, LegalDepot, legal-depot, LegalOrder, Legal}
 use Rattle.meaning.specs.Full.{FullDepot, Full, whole, full}
 use Rattle.meaning.specs.Market.{traineeList, noDepot, depotOf}
 use Rattle.meaning.proofs.Booleans.{true-or-false, none-some}
-use Rattle.meaning.proofs.Numbers.{order, sum-cong}
+use Rattle.meaning.proofs.Numbers.{order}
 use Rattle.meaning.proofs.Lists.{each-at}
+use Rattle.meaning.proofs.Entries.{trainee-entries, depot-entries}
 use Rattle.meaning.proofs.Full.{received, FullBack, full-back, full-trainees, full-depots, LegalFull, legal-full}
 use Rattle.tables.specs.Cells.{postsCell, kindCell, oneOrder, weightless, cellsOfOrders, laid, traineeStart, depotStart, orderStart, HeadRoom}
 use Rattle.tables.specs.Decode.{orderFrom, Sides, sidesOf, ordersOf, placementWith, placementOf}
@@ -59,28 +60,6 @@ getD-map : {A B : Type 0} (g : A → B) (x : A) (y : B) (l : List A) (k : ℕ) �
 getD-map g x y [] k u = absurd (omega arith)
 getD-map g x y (z ∷ l) zero u = refl
 getD-map g x y (z ∷ l) (suc k) u = getD-map g x y l k (omega arith)
-
-weigh-map : {A B : Type 0} (f : B → ℕ) (g : A → B) (l : List A) → weigh f (map g l) ≡ weigh (λ x. f (g x)) l
-unfolding weigh
-weigh-map f g [] = refl
-weigh-map f g (x ∷ l) = ap (λ z. f (g x) + z) (weigh-map f g l)
-
-sum-front : (n : ℕ) (g : ℕ → ℕ) → sum (suc n) g ≡ g 1 + sum n (λ k. g (suc k))
-unfolding sum
-sum-front zero g = refl
-sum-front (suc n) g = ap (λ z. g (suc (suc n)) + z) (sum-front n g) ∙ omega arith
-
--- the sum by number, 1 to as many as there are
-pub sum-weigh : {A : Type 0} (f : A → ℕ) (d : A) (l : List A) → sum (length l) (λ i. f (getD (d ∷ l) i d)) ≡ weigh f l
-unfolding sum weigh
-sum-weigh f d [] = refl
-sum-weigh {A} f d (x ∷ l) =
-    sum-front (length l) (λ i. f (getD (d ∷ x ∷ l) i d))
-    ∙ ap (λ z. f x + z) (sum-cong (length l) _ (λ i. f (getD (d ∷ l) i d)) later ∙ sum-weigh f d l)
-  where
-    later : (i : ℕ) → In (length l) i → f (getD (x ∷ l) i d) ≡ f (getD (d ∷ l) i d)
-    later zero u = absurd (omega (arith, u .low))
-    later (suc k) u = refl
 
 -- ---- both sides
 
@@ -173,25 +152,12 @@ module _ (h e : List ℕ) (b : Sides) (F : Full) (decoded : sidesOf h e ≡ some
   unfolding depotOf
   few-posts-of j = each-at (noDepot ∷ F .depots) (each-more (omega arith) (posts-in _ (F .depots) (subst (Each (LegalDepot _)) (back .depots) (legal-sides .depots)))) noDepot (omega arith) j
 
-  trainee-sum : sum (length (F .trainees)) (λ i. length (traineeList F i)) ≤ 4096
-  unfolding traineeList size
-  trainee-sum =
-      let x : weigh size (b .trainees) ≡ weigh length (F .trainees) = ap (weigh size) (back .trainees) ∙ weigh-map size some (F .trainees) in
-      let y = sum-weigh length [] (F .trainees) in
-      omega (arith, legal-sides .trainee-entries)
-
-  depot-sum : sum (length (F .depots)) (λ j. length (depotOf F j .list)) ≤ 4096
-  unfolding depotOf depotSize size
-  depot-sum =
-      let x : weigh depotSize (b .depots) ≡ weigh (λ (d : FullDepot). length (d .list)) (F .depots) = ap (weigh depotSize) (back .depots) ∙ weigh-map depotSize received (F .depots) in
-      let y = sum-weigh (λ (d : FullDepot). length (d .list)) noDepot (F .depots) in
-      omega (arith, legal-sides .depot-entries)
-
   legal-lists : LegalFull F
   unfolding fullSides
   legal-lists = legal-full (placementWith b []) F legal-sides all
 
   pub full-seen : FullSeen h e F
+  unfolding fullSides
   full-seen = record {
     room = seen .room;
     trainees = trainee-count;
@@ -201,8 +167,8 @@ module _ (h e : List ℕ) (b : Sides) (F : Full) (decoded : sidesOf h e ≡ some
     posts = λ j u. depot-cells j u .posts;
     few-posts = few-posts-of;
     legal = legal-lists;
-    trainee-entries = trainee-sum;
-    depot-entries = depot-sum;
+    trainee-entries = trainee-entries (placementWith b []) F legal-sides all;
+    depot-entries = depot-entries (placementWith b []) F legal-sides all;
   }
 
 -- ---- orders
