@@ -1,6 +1,7 @@
 -- A record filled from cells, and cells filled from a record: the list after each turn of either loop, and what the two leave. Assumes nothing.
 use Prim.Native.Nat.{ℕ, zero, suc, _+_, _*_, _-_, _≤_, _<_}
 use native.Mathlib.Omega.{arith}
+use native.Mathlib.Numerals.{add-one}
 use mathlib.Core.Path.{_≡_, refl, sym, ap, ap₂, _∙_}
 use mathlib.Core.List.{List, [], _∷_, _++_, append-assoc, append-nil}
 use lib.ListN.{length, take, drop, set, length-append, length-drop}
@@ -8,7 +9,7 @@ use lib.Seq.{length-take-le, drop-append-add, drop-drop, drop-cons, set-at, take
 use Rattle.meaning.specs.declared.Strike.{Strike}
 use Rattle.meaning.specs.Answers.{strikeNumbers}
 use Rattle.strikes.specs.Cells.{strikeAt, strikesIn, cellsWith, cellsOf, filled, flat, at}
-use Rattle.strikes.proofs.Encoding.{four, strike-here, count-strikes}
+use Rattle.strikes.proofs.Encoding.{four, strike-here, count-strikes, strikes-nth}
 
 -- ---- a record's front filled with the strikes of cells
 
@@ -101,3 +102,17 @@ module _ (log : List Strike) (old : List ℕ) where
   -- flattened and filled in again, the strikes are the same
   pub flat-filled : (k : ℕ) → k ≤ length log → (other : List Strike) → filled (flat log old k) other k ≡ take k log ++ drop k other
   flat-filled k h other = ap (λ l. l ++ drop k other) (flat-strikes k h)
+
+-- ---- the strikes of some cells laid over others
+
+module _ (cells old : List ℕ) (count : ℕ) where
+  pub lay-length : (k : ℕ) → k ≤ count → 4 * k ≤ length old → length (flat (strikesIn cells count) old k) ≡ length old
+  lay-length k h fits = flat-length (strikesIn cells count) old k (rw (count-strikes cells count) h) fits
+
+  pub lay-more : (out out′ : List ℕ) (k : ℕ) (s : Strike) → k < count → 4 * k + 4 ≤ length old → out ≡ flat (strikesIn cells count) old k → s ≡ strikeAt cells k → out′ ≡ cellsWith out k s
+      → out′ ≡ flat (strikesIn cells count) old (k + 1)
+  lay-more out out′ k s h fits was is put =
+      put
+      ∙ ap₂ (λ l x. cellsWith l k x) was (is ∙ sym (strikes-nth cells count k h))
+      ∙ flat-more (strikesIn cells count) old k (rw (count-strikes cells count) h) fits
+      ∙ ap (flat (strikesIn cells count) old) (sym (add-one k))

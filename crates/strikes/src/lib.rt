@@ -3,7 +3,7 @@ ghost use mathlib.Core.Path.{_≡_};
 ghost use Prim.Native.Nat.{_+_, _*_, _<_, _≤_};
 ghost use lib.ListN.{length, set};
 ghost use Rattle.meaning.specs.Answers.{reasonNumber, reasonWitness};
-ghost use Rattle.strikes.specs.Cells.{at, cellsWith, filled, flat, reasonOf, recorded, strikeAt, taken};
+ghost use Rattle.strikes.specs.Cells.{at, cellsWith, filled, flat, reasonOf, recorded, strikeAt, strikesIn, taken};
 use meaning::Reason;
 use meaning::Ruled;
 use meaning::Strike;
@@ -146,5 +146,18 @@ pub fn taken_of(count: u16, room: usize) -> usize
         room
     } else {
         4096
+    }
+}
+
+// The strikes that some cells hold go over the front of others, as the numbers of each strike and no others, and the rest of those stays.
+pub fn lay_strikes(cells: &[u16], count: usize, out: &mut [u16])
+    requires { ⌜ (4 * count ≤ length (now cells)) × (4 * count ≤ length (now out)) ⌝ }
+    ensures { λ _. ⌜ now (out .exit) ≡ flat (strikesIn (now (cells .entry)) count) (now (out .entry)) count ⌝ }
+{
+    let mut k: usize = 0;
+    while k < count {
+        let s = strike_in(cells, k);
+        put_strike(&mut *out, k, s);
+        k += 1;
     }
 }
