@@ -111,7 +111,7 @@ pub fn write(ruling: &Ruling) -> Result<Vec<u8>, Refusal> {
 }
 
 /// The paper's numbers for a reason and its witness.
-fn numbers_of(reason: Reason) -> (usize, usize) {
+pub fn numbers_of(reason: Reason) -> (usize, usize) {
     match reason {
         Reason::Barred => (1, 0),
         Reason::HeldElsewhere(depot) => (2, depot),

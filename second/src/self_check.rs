@@ -191,7 +191,7 @@ fn true_test(small: &Small, table: &[usize], said: Tested) -> Result<(), String>
 }
 
 /// A ruling with a change: a strike dropped, moved, or for another reason, or another ending.
-fn altered(random: &mut Random, ruling: &Ruling, m: usize) -> Ruling {
+pub fn altered(random: &mut Random, ruling: &Ruling, m: usize) -> Ruling {
     let mut other = ruling.clone();
     if ruling.n == 0 || m == 0 {
         return other;
