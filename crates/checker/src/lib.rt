@@ -1,4 +1,6 @@
 // The checker of a ruling in plain cells: its strikes are replayed on rows of struck places, then the ending is tried.
+#![tactic(auto)]
+
 ghost use Rattle.std.specs.Prelude.{◌≡◌, ℕ, ◌+◌, ◌-◌, ◌*◌, ◌≤◌, ◌<◌, length, get_or, take, leb, eqb, ltb, true, not};
 ghost use Rattle.meaning.specs.Numbers.{In, ◌&◌};
 ghost use Rattle.meaning.specs.Lists.{place};
@@ -17,7 +19,7 @@ ghost use Rattle.checker.specs.Turns.{TraineesIn, rows_after, Going, ReplaySays}
 use meaning::{Checked, Ending, Reason, Ruling, Strike, Tested};
 
 // What a replay of strikes finds: each was allowed when its turn came, or the step that was not.
-#[derive(Drop)]
+#[derive(Clone, Copy)]
 pub enum Replayed {
     AllAllowed,
     Stopped(u16),

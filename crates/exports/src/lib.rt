@@ -1,5 +1,7 @@
 // The C interface: the public functions over plain slices. Each answer is given as its numbers, laid over the front of 8 or more lent cells, and
 // each function returns how many they are. With fewer than 8 cells it returns 0 and changes nothing.
+#![tactic(auto)]
+
 ghost use Rattle.std.specs.Prelude.{◌≡◌, [], ◌∷◌, ◌≤◌, length};
 ghost use Rattle.std.proofs.Math.Option.{some};
 ghost use Rattle.meaning.specs.Answers.{refusal_numbers, reading_numbers, writing_numbers, receipt_numbers, tested_numbers, ruling_numbers, ruled_numbers};
@@ -9,7 +11,7 @@ ghost use Rattle.exports.specs.Calls.{call, read_call, write_call, receipt_call,
 use meaning::{Ending, Reading, Receipt, Refusal, Ruled, Ruling, Tested, Writing};
 
 // The numbers of an answer: the first `count` of the cells.
-#[derive(Drop)]
+#[derive(Clone, Copy)]
 struct Numbers {
     cells: [u64; 6],
     count: usize,

@@ -1,5 +1,7 @@
 // The leaves of both texts: what stands at a position of a text, and bytes put at a position of an output.
 // A field is read from the position of its tab, and every answer says where the reading stopped.
+#![tactic(auto)]
+
 ghost use Rattle.std.specs.Prelude.{◌≡◌, ◌∷◌, [], ◌+◌, ◌≤◌, ◌<◌, length, drop};
 ghost use Rattle.std.proofs.Math.Seq.{slice};
 ghost use Rattle.fields.specs.Bytes.{word_of, same};
@@ -8,42 +10,42 @@ ghost use Rattle.fields.specs.Writer.{write_number};
 ghost use Rattle.fields.specs.Leaves.{num_of, FieldRead, FigureRead, NumberRead, RunningRead, EndRead, KeywordRead, NumberedRead, Put};
 
 // A word as a number.
-#[derive(Drop)]
+#[derive(Clone, Copy)]
 pub enum Num {
     Value(u32),
     Not,
 }
 
 // The word of a field: where it starts and where it stopped.
-#[derive(Drop)]
+#[derive(Clone, Copy)]
 pub enum Field {
     Word(usize, usize),
     Missing,
 }
 
 // A number in a field, and where it stopped.
-#[derive(Drop)]
+#[derive(Clone, Copy)]
 pub enum Figure {
     Is(u32, usize),
     Wrong,
 }
 
 // A number of a range, and where it stopped; or the number of the refusal, 3 or 4.
-#[derive(Drop)]
+#[derive(Clone, Copy)]
 pub enum Ranged {
     Is(u16, usize),
     Not(u16),
 }
 
 // What had to stand there, and where it stopped.
-#[derive(Drop)]
+#[derive(Clone, Copy)]
 pub enum Found {
     To(usize),
     Wrong,
 }
 
 // The word and the running number of a line, and where they stopped; or the field that is wrong.
-#[derive(Drop)]
+#[derive(Clone, Copy)]
 pub enum Numbered {
     To(usize),
     Wrong(usize),

@@ -1,4 +1,6 @@
 // Frostcrumb's public functions: each answers whatever it is lent, and asks nothing.
+#![tactic(auto)]
+
 ghost use Rattle.std.specs.Prelude.{◌≡◌};
 ghost use Rattle.std.proofs.Math.Option.{some};
 ghost use Rattle.tables.specs.Answers.{trainee_receipt, trainee_list};

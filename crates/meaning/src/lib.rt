@@ -1,7 +1,8 @@
 // The values that answers and records are made of. Their meaning stands in specs/, and specs/Answers.antt gives the numbers of each case.
+#![tactic(auto)]
 
 // Why a pair is struck, with the witness that the reason has: a depot, or a trainee.
-#[derive(Drop)]
+#[derive(Clone, Copy)]
 pub enum Reason {
     Barred,
     HeldElsewhere(u16),
@@ -10,7 +11,7 @@ pub enum Reason {
 }
 
 // One strike of a record: its pair and its reason.
-#[derive(Drop)]
+#[derive(Clone, Copy)]
 pub struct Strike {
     pub trainee: u16,
     pub depot: u16,
@@ -18,7 +19,7 @@ pub struct Strike {
 }
 
 // How a ruling ends: with a table, or with a pair that shows why there is none (kind 1: a held pair; kind 2: a pair whose depot keeps room).
-#[derive(Drop)]
+#[derive(Clone, Copy)]
 pub enum Ending {
     Placed,
     NoneHeld(u16, u16),
@@ -26,7 +27,7 @@ pub enum Ending {
 }
 
 // A ruling beside its record and its table: the number of trainees, the number of strikes, the ending.
-#[derive(Drop)]
+#[derive(Clone, Copy)]
 pub struct Ruling {
     pub trainees: u16,
     pub strikes: u16,
@@ -34,28 +35,28 @@ pub struct Ruling {
 }
 
 // A number given back, and the line that it gives.
-#[derive(Drop)]
+#[derive(Clone, Copy)]
 pub struct Refusal {
     pub number: u16,
     pub line: u16,
 }
 
 // What reading a placement answers.
-#[derive(Drop)]
+#[derive(Clone, Copy)]
 pub enum Reading {
     Taken,
     Refused(Refusal),
 }
 
 // What writing answers: the number of bytes.
-#[derive(Drop)]
+#[derive(Clone, Copy)]
 pub enum Writing {
     Written(usize),
     Refused(Refusal),
 }
 
 // Whether a trainee's list was received.
-#[derive(Drop)]
+#[derive(Clone, Copy)]
 pub enum Receipt {
     Received,
     NotReceived,
@@ -64,7 +65,7 @@ pub enum Receipt {
 }
 
 // What the stability test of a table answers.
-#[derive(Drop)]
+#[derive(Clone, Copy)]
 pub enum Tested {
     Stable,
     NotMutual(u16),
@@ -74,14 +75,14 @@ pub enum Tested {
 }
 
 // What solving answers, and what reading a ruling answers.
-#[derive(Drop)]
+#[derive(Clone, Copy)]
 pub enum Ruled {
     Ruling(Ruling),
     Refused(Refusal),
 }
 
 // What checking a ruling answers: accepted, or the first step that isn't allowed.
-#[derive(Drop)]
+#[derive(Clone, Copy)]
 pub enum Checked {
     Accepted,
     NotAllowed(u16),

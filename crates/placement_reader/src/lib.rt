@@ -1,5 +1,7 @@
 // Reading a placement text into the lent tables. The text is read into scratch tables, and their used cells are laid over the lent ones at the
 // end, so that a refusal changes no lent cell.
+#![tactic(auto)]
+
 ghost use Rattle.std.specs.Prelude.{◌≡◌, ◌+◌, ◌*◌, ◌≤◌, length, take};
 ghost use Rattle.tables.specs.Cells.{laid};
 ghost use Rattle.placement_text.specs.Code.{HeadLine};
@@ -11,7 +13,7 @@ use meaning::{Reading, Refusal};
 use placement_text::{HeadRow, Orders, Side};
 
 // The whole text: how many cells of heads, entries and orders are used; or the refusal's number and line.
-#[derive(Drop)]
+#[derive(Clone, Copy)]
 pub enum Whole {
     Taken(usize, usize, usize),
     Refused(u16, usize),

@@ -55,13 +55,13 @@ entry-back k hi seen s {e} {r} h =
       text = b.text ∙ ap (λ y. write_number a.value ++ y) (u.1 ∙ got-rest c.on);
     })
 
-pub entries-there : (k hi : ℕ) (seen es r : List ℕ) → hi < 100000 → Fresh hi seen es → stops r ≡ true
+pub entries-there : (hi k : ℕ) (seen es r : List ℕ) → hi < 100000 → Fresh hi seen es → stops r ≡ true
     → entries (length es) k hi seen (write_entries es ++ r) ≡ got (seen ++ es) r
 unfolding entries write_entries
-entries-there k hi seen _ r h fresh-none t = rw append-nil
-entries-there k hi seen _ r h (fresh-more {e = e} {es = es} b m f) t =
+entries-there hi k seen _ r h fresh-none t = rw append-nil
+entries-there hi k seen _ r h (fresh-more {e = e} {es = es} b m f) t =
     rw (append_assoc (write_number e) (write_entries es) r, entry-there k hi seen e (write_entries es ++ r) h b m (entries-stop es r t))
-    (entries-there (k + 1) hi (seen ++ e ∷ []) es r h f t ∙ ap (λ x. got x r) (append_assoc seen (e ∷ []) es))
+    (entries-there hi (k + 1) (seen ++ e ∷ []) es r h f t ∙ ap (λ x. got x r) (append_assoc seen (e ∷ []) es))
 
 pub record Entries (c hi : ℕ) (seen s out r : List ℕ) : Type 0 where
   pub es : List ℕ
@@ -106,7 +106,7 @@ list-there k hi total _ r h (a_list {l = es} g) t =
     )
     (rw (
       unless-there 6 k (leb (total + length es) MOST) (write_entries es ++ LF ∷ r) (le-leb (total + length es) MOST t),
-      entries-there (k + 1) hi [] es (LF ∷ r) h (legal-fresh hi es g) (lf-stops r),
+      entries-there hi (k + 1) [] es (LF ∷ r) h (legal-fresh hi es g) (lf-stops r),
       end-there (k + 1 + length es) r,
     ))
 

@@ -114,15 +114,15 @@ unfolding orders opening_of same ◌&◌ word_of rest_of stop? finish end_fields
 end_step zero n m l acc = refl
 end_step (suc c) n m l acc = refl
 
-pub orders-there : (c n m l : ℕ) (os acc : List Order) → n ≤ 256 → m ≤ 64 → length os ≤ c → Each (LegalOrder n m) os
+pub orders-there : (n m c l : ℕ) (os acc : List Order) → n ≤ 256 → m ≤ 64 → length os ≤ c → Each (LegalOrder n m) os
     → orders c n m l acc (write_orders os ++ write_end) ≡ got (acc ++ os) []
 unfolding write_orders write_order
-orders-there c n m l _ acc hn hm h each_none = rw append-nil (end_step c n m l acc)
-orders-there zero n m l _ acc hn hm h (each_more p ps) = absurd (omega arith)
-orders-there (suc c) n m l _ acc hn hm h (each_more {x = o} {xs = os} p ps) =
+orders-there n m c l _ acc hn hm h each_none = rw append-nil (end_step c n m l acc)
+orders-there n m zero l _ acc hn hm h (each_more p ps) = absurd (omega arith)
+orders-there n m (suc c) l _ acc hn hm h (each_more {x = o} {xs = os} p ps) =
     ap (orders (suc c) n m l acc) (simp append_assoc)
     ∙ order-step c n m l o acc (write_orders os ++ write_end) hn hm p
-    ∙ orders-there c n m (l + 1) os (acc ++ o ∷ []) hn hm (omega arith) ps
+    ∙ orders-there n m c (l + 1) os (acc ++ o ∷ []) hn hm (omega arith) ps
     ∙ ap (λ x. got x []) (append_assoc acc (o ∷ []) os)
 
 pub record Orders (c n m : ℕ) (acc : List Order) (s : List ℕ) (out : List Order) : Type 0 where

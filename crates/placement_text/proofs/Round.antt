@@ -98,7 +98,7 @@ placement-there p g =
       head-there p.edition n m r₃ g.edition g.n g.m,
       lines-there (trainee_line m) size write_trainee (LegalList m) MOST 256 (trainee-there m g.m) 1 0 p.trainees [] r₂ (omega arith) g.trainees (omega arith),
       lines-there (depot_line n) depot_size write_depot (LegalDepot n) MOST 64 (depot-there n g.n) 1 0 p.depots [] r₁ (omega arith) g.depots (omega arith),
-      orders-there 1024 n m (n + m + 2) p.orders [] g.n g.m g.few_orders g.orders,
+      orders-there n m 1024 (n + m + 2) p.orders [] g.n g.m g.few_orders g.orders,
     ))
 
 pub record PlacementRead (s : List ℕ) (p : Placement) : Type 0 where

@@ -1,5 +1,7 @@
 // The reader of the placement text, line by line: each function reads from a position of the text and fills cells of scratch tables.
 // A field is read from the position of its tab. Refusals carry their number and field; the line is added where lines are counted.
+#![tactic(auto)]
+
 ghost use Rattle.std.specs.Prelude.{◌≡◌, [], ◌+◌, ◌*◌, ◌≤◌, length, drop};
 ghost use Rattle.std.proofs.Math.Option.{some};
 ghost use Rattle.meaning.specs.Placement.{size, depot_size};
@@ -10,7 +12,7 @@ ghost use Rattle.placement_text.specs.Code.{ReceivedRead, EntriesRead, ListedRea
 use fields::{Field, Found, Num, Numbered, Ranged};
 
 // A number or `?`, and where it stopped; or the number of the refusal, 3 or 4.
-#[derive(Drop)]
+#[derive(Clone, Copy)]
 pub enum Received {
     Is(u16, usize),
     Missing(usize),
@@ -18,42 +20,42 @@ pub enum Received {
 }
 
 // Where the entries stopped; or the refusal's number and field.
-#[derive(Drop)]
+#[derive(Clone, Copy)]
 pub enum Entries {
     To(usize),
     Refused(u16, usize),
 }
 
 // A list: the cell of its length, how many entries it has, and where its line stopped; or the refusal's number and field.
-#[derive(Drop)]
+#[derive(Clone, Copy)]
 pub enum Listed {
     To(u16, usize, usize),
     Refused(u16, usize),
 }
 
 // Posts: their cell, and where they stopped; or the number of the refusal, 3 or 4.
-#[derive(Drop)]
+#[derive(Clone, Copy)]
 pub enum Posts {
     To(u16, usize),
     Not(u16),
 }
 
 // A depot: the cells of its posts and its length, how many entries it has, and where its line stopped; or the refusal's number and field.
-#[derive(Drop)]
+#[derive(Clone, Copy)]
 pub enum DepotRow {
     To(u16, u16, usize, usize),
     Refused(u16, usize),
 }
 
 // The lines of a side: how many entries they have together, and where they stopped; or the refusal's number, line and field.
-#[derive(Drop)]
+#[derive(Clone, Copy)]
 pub enum Side {
     To(usize, usize),
     Refused(u16, usize, usize),
 }
 
 // What a line below the depots is, by its word: a pair with the cell of its kind, or the end line, and where the word stopped.
-#[derive(Drop)]
+#[derive(Clone, Copy)]
 pub enum Opens {
     Pair(u16, usize),
     End(usize),
@@ -61,21 +63,21 @@ pub enum Opens {
 }
 
 // The trainee and the depot of a pair, and where its line stopped; or the refusal's number and field.
-#[derive(Drop)]
+#[derive(Clone, Copy)]
 pub enum PairRow {
     To(u16, u16, usize),
     Refused(u16, usize),
 }
 
 // The end of the text; or the refusal's number, line and field.
-#[derive(Drop)]
+#[derive(Clone, Copy)]
 pub enum Finish {
     Done,
     Refused(u16, usize, usize),
 }
 
 // A line below the depots: a pair's cells and where its line stopped, or the end of the text; or the refusal's number, line and field.
-#[derive(Drop)]
+#[derive(Clone, Copy)]
 pub enum OrderRow {
     Pair(u16, u16, u16, usize),
     Done,
@@ -83,14 +85,14 @@ pub enum OrderRow {
 }
 
 // How many pairs there are; or the refusal's number, line and field.
-#[derive(Drop)]
+#[derive(Clone, Copy)]
 pub enum Orders {
     To(usize),
     Refused(u16, usize, usize),
 }
 
 // How many trainees and depots there are, and where the first line stopped; or the refusal's number and field.
-#[derive(Drop)]
+#[derive(Clone, Copy)]
 pub enum HeadRow {
     To(u16, u16, usize),
     Refused(u16, usize),

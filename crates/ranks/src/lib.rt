@@ -1,4 +1,6 @@
 // Ranks, posts and mutual pairs, read from tables in which everything was received.
+#![tactic(auto)]
+
 ghost use Rattle.std.specs.Prelude.{◌≡◌};
 ghost use Rattle.meaning.specs.Numbers.{In};
 ghost use Rattle.meaning.specs.Lists.{place};

@@ -1,4 +1,6 @@
 // Which reason fits a pair now, read off the tables and the rows of struck places.
+#![tactic(auto)]
+
 ghost use Rattle.std.specs.Prelude.{◌≡◌, true, false, not, ℕ, ◌+◌, ◌-◌, ◌*◌, ◌≤◌, ◌<◌, length, get_or, leb, ltb, eqb};
 ghost use Rattle.std.proofs.Math.Option.{none};
 ghost use Rattle.meaning.specs.Numbers.{In, bit};
@@ -16,14 +18,14 @@ ghost use Rattle.reasons.specs.Answers.{choice_of};
 use meaning::Reason;
 
 // The reason found, or none.
-#[derive(Drop)]
+#[derive(Clone, Copy)]
 pub enum Choice {
     Because(Reason),
     Nothing,
 }
 
 // What a pass along a part of a depot's list finds: how many have everything above the depot struck, and the smallest who has everything down to it struck, 0 for none.
-#[derive(Drop)]
+#[derive(Clone, Copy)]
 pub struct Tally {
     pub settled: usize,
     pub passed: u16,

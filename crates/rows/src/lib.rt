@@ -1,4 +1,5 @@
 // A row of 64 bits keeps a mark for each place of a trainee's list, place 0 the lowest bit. specs/ says what a row's marks are.
+#![tactic(auto)]
 
 ghost use Rattle.std.specs.Prelude.{◌≡◌, ◌<◌, length, get_or, set};
 ghost use Rattle.rows.specs.Marks.{is_marked, with_mark, mark_if, past_end, turned};

@@ -1,4 +1,6 @@
 // The ruling text on plain cells: four cells to a strike (trainee, depot, the reason's number, witness), one cell of the table to a trainee.
+#![tactic(auto)]
+
 ghost use Rattle.std.specs.Prelude.{◌≡◌, ◌∷◌, [], ◌+◌, ◌*◌, ◌≤◌, length, take, drop};
 ghost use Rattle.std.proofs.lemmas.List.Edits.{sets};
 ghost use Rattle.fields.specs.Leaves.{Put};
@@ -16,63 +18,63 @@ use fields::{Found, Ranged};
 use meaning::{Ending, Ruling};
 
 // A number and where it stopped; or the refusal's number and field.
-#[derive(Drop)]
+#[derive(Clone, Copy)]
 pub enum One {
     Is(u16, usize),
     Not(u16, u16),
 }
 
 // Two numbers and where they stopped; or the refusal's number and field.
-#[derive(Drop)]
+#[derive(Clone, Copy)]
 pub enum Two {
     Are(u16, u16, usize),
     Not(u16, u16),
 }
 
 // Four numbers and where they stopped; or the refusal's number and field.
-#[derive(Drop)]
+#[derive(Clone, Copy)]
 pub enum Four {
     Are(u16, u16, u16, u16, usize),
     Not(u16, u16),
 }
 
 // Where lines stopped; or the refusal's number, line and field.
-#[derive(Drop)]
+#[derive(Clone, Copy)]
 pub enum Rows {
     To(usize),
     Refused(u16, u16, u16),
 }
 
 // An ending without a table, and where its line stopped; or the refusal's number and field.
-#[derive(Drop)]
+#[derive(Clone, Copy)]
 pub enum None {
     Is(Ending, usize),
     Not(u16, u16),
 }
 
 // How the text ends and where that stopped; or the refusal's number, line and field.
-#[derive(Drop)]
+#[derive(Clone, Copy)]
 pub enum Conclusion {
     To(Ending, usize),
     Refused(u16, u16, u16),
 }
 
 // The end line with nothing after it; or the line and the field that are of wrong form.
-#[derive(Drop)]
+#[derive(Clone, Copy)]
 pub enum Last {
     Here,
     Wrong(u16, u16),
 }
 
 // How the text ends; or the refusal's number, line and field.
-#[derive(Drop)]
+#[derive(Clone, Copy)]
 pub enum End {
     Is(Ending),
     Refused(u16, u16, u16),
 }
 
 // What reading a ruling text answers: the ruling beside its cells; or the refusal's number, line and field.
-#[derive(Drop)]
+#[derive(Clone, Copy)]
 pub enum RulingRead {
     Taken(Ruling),
     Refused(u16, u16, u16),

@@ -1,4 +1,6 @@
 // A ruling in memory, on plain cells: whether its parts have their full sizes, and whether a reader could have filled them.
+#![tactic(auto)]
+
 ghost use Rattle.std.specs.Prelude.{◌≡◌};
 ghost use Rattle.rulings.specs.Held.{roomy};
 

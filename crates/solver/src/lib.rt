@@ -1,4 +1,6 @@
 // The solver: sweeps over rows and cells, until one strikes nothing.
+#![tactic(auto)]
+
 ghost use Rattle.std.specs.Prelude.{◌≡◌, [], ℕ, suc, ◌+◌, ◌*◌, ◌≤◌, ◌<◌, length, get_or};
 ghost use Rattle.meaning.specs.Numbers.{In};
 ghost use Rattle.meaning.specs.Strikes.{mutual_pairs};
@@ -135,14 +137,14 @@ fn sweep_all(
 }
 
 // What the search for a held pair that is struck or not mutual finds.
-#[derive(Drop)]
+#[derive(Clone, Copy)]
 pub enum Held {
     Broken(u16, u16),
     Unbroken,
 }
 
 // What the search for a pair of kind 2 finds: the trainee and the depot.
-#[derive(Drop)]
+#[derive(Clone, Copy)]
 pub enum Room {
     At(u16, u16),
     Nowhere,

@@ -1,4 +1,6 @@
 // The stability test of a table.
+#![tactic(auto)]
+
 ghost use Rattle.std.specs.Prelude.{◌≡◌, not, ℕ, ◌+◌, ◌-◌, ◌≤◌, ◌<◌, length, get_or, ltb};
 ghost use Rattle.meaning.specs.Numbers.{In, ◌&◌};
 ghost use Rattle.meaning.specs.Lists.{place};
@@ -14,7 +16,7 @@ ghost use Rattle.stability.specs.Search.{found_of, stranger?, larger, Counts, Wo
 use meaning::{Refusal, Tested};
 
 // The first that is wrong, or none is.
-#[derive(Drop)]
+#[derive(Clone, Copy)]
 pub enum Found {
     At(u16),
     Nothing,

@@ -1,4 +1,6 @@
 // Strikes as plain cells, and the lent row of strikes. Every function over `&[Strike]` or `&mut [Strike]` that other crates need stands here, so that they work on plain cells.
+#![tactic(auto)]
+
 ghost use Rattle.std.specs.Prelude.{◌≡◌, ◌+◌, ◌*◌, ◌<◌, ◌≤◌, length, set};
 ghost use Rattle.meaning.specs.Answers.{reason_number, reason_witness};
 ghost use Rattle.strikes.specs.Cells.{at, cells_with, filled, flat, reason_of, recorded, strike_at, strikes_in, taken};

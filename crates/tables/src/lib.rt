@@ -1,4 +1,6 @@
 // The lent tables: what their cells hold, and what can be read from them.
+#![tactic(auto)]
+
 ghost use Rattle.std.specs.Prelude.{◌≡◌, not, false, List, [], ℕ, ◌+◌, ◌-◌, ◌*◌, ◌≤◌, ◌<◌, length, get_or, drop};
 ghost use Rattle.std.proofs.Math.Option.{some};
 ghost use Rattle.meaning.specs.Numbers.{◌&◌};
@@ -145,7 +147,7 @@ pub fn list_at<'a>(heads: &[u16], entries: &'a [u16], at: usize) -> &'a [u16]
 }
 
 // Where the entries of one list, or of several, end; or no reader could have filled the cells.
-#[derive(Drop)]
+#[derive(Clone, Copy)]
 enum End {
     At(usize),
     Wrong,

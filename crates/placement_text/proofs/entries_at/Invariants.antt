@@ -1,0 +1,10 @@
+-- The invariant: what is left, read after the entries so far, is the reading of all; these stand in the cells, and the marks are theirs.
+use Prim.Native.Nat.{◌-◌}
+use Rattle.placement_text.proofs.Ways.{EntriesTurn}
+use Rattle.placement_text.proofs.entries_at.Given as goal
+
+abbrev pub invariant-loop-c : goal.invariant-loop-c
+invariant-loop-c l = EntriesTurn l.s l.at l.count l.k l.hi l.start l.initial.t l.t l.seen l.c l.p
+
+abbrev pub decreases-loop-c : goal.decreases-loop-c
+decreases-loop-c l = l.count - l.c

@@ -1,0 +1,14 @@
+-- The placement's tables first, then the table, then the record.
+use mathlib.Core.Path.{sym, ◌∙◌}
+use borrow.Author.Tests.{lt-leb, le-leb}
+use Rattle.rulings.proofs.Sizes.{part-short, table-short, record-long}
+use Rattle.rulings.proofs.has_room.Goals as goal
+
+pub returns-then-not-sizes_ok : goal.returns-then-not-sizes_ok
+returns-then-not-sizes_ok c = part-short _ _ _ _ _ (sym c.sizes_ok.ensures ∙ c.if-not-sizes_ok.true)
+
+pub returns-then-cells-lt256 : goal.returns-then-cells-lt256
+returns-then-cells-lt256 c = table-short _ _ _ _ _ (sym c.sizes_ok.ensures ∙ c.if-not-sizes_ok.false) (lt-leb _ _ c.if-cells-lt256.true)
+
+pub returns : goal.returns
+returns c = record-long _ _ _ _ _ (sym c.sizes_ok.ensures ∙ c.if-not-sizes_ok.false) (le-leb _ _ c.if-cells-lt256.false)
