@@ -104,7 +104,7 @@ can-orders : (c n m l : ℕ) (os : List Order) → n ≤ 256 → m ≤ 64 → Ca
 unfolding follow
 can-orders zero n m l os hn hm =
     can-as _ _ (follows zero n m l os)
-    (can-opening l (follow zero n m l os) (write_orders [] ++ write_end) (os ++ []) [] (follows zero n m l os (write_orders [] ++ write_end) ∙ orders-there zero n m l [] os hn hm (omega arith) each_none) each)
+    (can-opening l (follow zero n m l os) (write_orders [] ++ write_end) (os ++ []) [] (follows zero n m l os (write_orders [] ++ write_end) ∙ orders-there n m zero l [] os hn hm (omega arith) each_none) each)
   where
     each : (w : Opening) (q : List ℕ) (x k f : ℕ) → follow zero n m l os w q ≡ refusal x k f → (l ≡ k) ⊎ Completion l (follow zero n m l os w) q k
     each (order b) q x k f e = inl cc
@@ -112,7 +112,7 @@ can-orders zero n m l os hn hm =
     each other q x k f e = inl cc
 can-orders (suc c) n m l os hn hm =
     can-as _ _ (follows (suc c) n m l os)
-    (can-opening l (follow (suc c) n m l os) (write_orders [] ++ write_end) (os ++ []) [] (follows (suc c) n m l os (write_orders [] ++ write_end) ∙ orders-there (suc c) n m l [] os hn hm (omega arith) each_none)
+    (can-opening l (follow (suc c) n m l os) (write_orders [] ++ write_end) (os ++ []) [] (follows (suc c) n m l os (write_orders [] ++ write_end) ∙ orders-there n m (suc c) l [] os hn hm (omega arith) each_none)
     (each (λ o. can-orders c n m (l + 1) (os ++ o ∷ []) hn hm)))
   where
     each : ((o : Order) → Can (l + 1) (orders c n m (l + 1) (os ++ o ∷ []))) → (w : Opening) (q : List ℕ) (x k f : ℕ) → follow (suc c) n m l os w q ≡ refusal x k f

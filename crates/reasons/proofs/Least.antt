@@ -1,6 +1,6 @@
 -- The smallest number that passes, whatever the order in which they are met.
 -- Assumes nothing.
-use Prim.Native.Nat.{ℕ, suc, ◌≤◌, ◌<◌}
+use Prim.Native.Nat.{ℕ, zero, suc, ◌≤◌, ◌<◌}
 use mathlib.Core.Path.{◌≡◌, refl, sym, ap, ◌∙◌}
 use mathlib.Core.Logic.{◌⊎◌, inl, inr, ⊎_elim}
 use mathlib.Core.Bool.{Bool, true, false, false≢true}
@@ -46,6 +46,7 @@ smallest-least n f w q = go (smallest n f) (smallest-is n f) w q
 take_more : {Q : ℕ → Type 0} (k w : ℕ) → 1 ≤ k → LeastOf Q w → LeastOf (λ x. Q x ⊎ (x ≡ k)) (smaller k w)
 unfolding smaller
 take_more (suc k) w p (none_is h) = least-is k (inr refl) (λ x. ⊎_elim (λ q. absurd (h x q)) (λ e. omega arith))
+take_more {Q = Q} zero w p _ = absurd (omega arith)
 take_more {Q} (suc k) w p (least-is v q h) = go (true-or-false (ltb (suc k) (suc v)))
   where
     go : (ltb (suc k) (suc v) ≡ true) ⊎ (ltb (suc k) (suc v) ≡ false) → LeastOf (λ x. Q x ⊎ (x ≡ suc k)) (smaller_by (ltb (suc k) (suc v)) (suc k) (suc v))

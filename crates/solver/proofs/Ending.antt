@@ -34,7 +34,6 @@ use Rattle.reasons.specs.Scans.{least_in}
 use Rattle.reasons.specs.Reasons.{settled, number_or}
 use Rattle.reasons.proofs.Settled.{left_at, marked-at, down-first}
 use Rattle.reasons.proofs.Least.{smallest-list}
-use Rattle.strikes.proofs.Arrays.{back}
 
 -- ---- the struck pairs of rows
 

@@ -1,0 +1,36 @@
+-- The refusals are tried in the definition's order; past them the tables are full, and the solver on cells gives the placement's ruling.
+use mathlib.Core.Path.{sym, ◌∙◌}
+use native.Mathlib.Omega.{arith}
+use Rattle.stability.proofs.Guards.{head-room}
+use Rattle.rulings.proofs.Sizes.{long-parts}
+use Rattle.solver.proofs.Guards.{solve-short, solve-unread, read-tables, solve-lacking, ready, solve-whole}
+use Rattle.solver.proofs.solve_lent.Goals as goal
+
+pub returns-then-not-has_room : goal.returns-then-not-has_room
+returns-then-not-has_room c = let a = c.args in
+    solve-short a.heads.now a.entries.now a.orders.now a.table.now a.room _ (sym c.has_room.ensures ∙ c.if-not-has_room.true)
+
+pub used_cells_ok-requires : goal.used_cells_ok-requires
+used_cells_ok-requires c = let l = long-parts _ _ _ _ _ (sym c.has_room.ensures ∙ c.if-not-has_room.false) in (l.tables.heads, l.tables.orders)
+
+pub returns-then-not-used_cells_ok : goal.returns-then-not-used_cells_ok
+returns-then-not-used_cells_ok c = let a = c.args in
+    solve-unread a.heads.now a.entries.now a.orders.now a.table.now a.room (sym c.has_room.ensures ∙ c.if-not-has_room.false) _ (sym c.used_cells_ok.ensures ∙ c.if-not-used_cells_ok.true)
+
+pub first_missing_line-line-requires : goal.first_missing_line-line-requires
+first_missing_line-line-requires c = let a = c.args in
+    let g = read-tables a.heads.now a.entries.now a.orders.now a.table.now a.room (sym c.has_room.ensures ∙ c.if-not-has_room.false) (sym c.used_cells_ok.ensures ∙ c.if-not-used_cells_ok.false) in
+    head-room _ _ _ g.placement g.held
+
+pub returns-then-line-ne0 : goal.returns-then-line-ne0
+returns-then-line-ne0 c = let a = c.args in
+    solve-lacking _ _ _ _ _ (read-tables a.heads.now a.entries.now a.orders.now a.table.now a.room (sym c.has_room.ensures ∙ c.if-not-has_room.false) (sym c.used_cells_ok.ensures ∙ c.if-not-used_cells_ok.false)) _ c.first_missing_line-line.ensures _ c.if-line-ne0.true
+
+pub solve_cells-ruling-requires : goal.solve_cells-ruling-requires
+solve_cells-ruling-requires c = let a = c.args in
+    let full = ready _ _ _ _ _ (read-tables a.heads.now a.entries.now a.orders.now a.table.now a.room (sym c.has_room.ensures ∙ c.if-not-has_room.false) (sym c.used_cells_ok.ensures ∙ c.if-not-used_cells_ok.false)) _ c.first_missing_line-line.ensures c.if-line-ne0.false in
+    (full.0, full.1, (long-parts _ _ _ _ _ (sym c.has_room.ensures ∙ c.if-not-has_room.false)).table, omega (arith, c.requires))
+
+pub returns : goal.returns
+returns c = let a = c.args in
+    solve-whole _ _ _ _ _ (read-tables a.heads.now a.entries.now a.orders.now a.table.now a.room (sym c.has_room.ensures ∙ c.if-not-has_room.false) (sym c.used_cells_ok.ensures ∙ c.if-not-used_cells_ok.false)) _ c.first_missing_line-line.ensures c.if-line-ne0.false _ _ _ c.solve_cells-ruling.ensures
