@@ -13,7 +13,7 @@ use Rattle.rulings.specs.Held.{outcome_in}
 use Rattle.checker.specs.Check.{orders_of_table, check_in, CheckSays}
 use Rattle.checker.proofs.Replaying.{going-ends}
 use Rattle.checker.proofs.Joined.{ending-same}
-use Rattle.meaning.specs.Numbers.{In, count}
+use Rattle.meaning.specs.Numbers.{In}
 use Rattle.meaning.specs.Lists.{Each, each_none}
 use Rattle.meaning.specs.Placement.{LegalOrder}
 use Rattle.meaning.specs.Market.{Standing, standing}

@@ -19,11 +19,9 @@ use Rattle.checker.specs.Ends.{left_cell, left_cells, tells_stable, obeys_rows, 
 use Rattle.checker.proofs.Ways.{and-stops, and-goes, down-far}
 use Rattle.stability.specs.Search.{Counts}
 use Rattle.meaning.specs.Numbers.{In, ◌&◌, imp, all}
-use Rattle.meaning.specs.Placement.{held, barred}
 use Rattle.meaning.specs.Market.{Table, mutual?, placed, Stable}
-use Rattle.meaning.specs.Strikes.{allowed}
 use Rattle.meaning.specs.Endings.{table_of, within?, stable?, same_cells}
-use Rattle.meaning.specs.Stability.{test_by, test}
+use Rattle.meaning.specs.Stability.{test_by}
 use Rattle.meaning.specs.Truth.{TestSays, says_stable, says_stranger, says_over, says_blocking}
 use Rattle.meaning.proofs.Booleans.{true-or-false, never, is_false, iff, and_left, and_right, and_intro, imp_use, imp_intro}
 use Rattle.meaning.proofs.Numbers.{order, same, all-use, all-intro}

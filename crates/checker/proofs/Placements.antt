@@ -15,7 +15,7 @@ use lib.Dec.{leb}
 use borrow.Author.Tests.{leb-true, le-leb, eq-eqb}
 use Rattle.checker.specs.Ends.{left_cell, left_cells}
 use Rattle.checker.specs.Check.{FullPlacement}
-use Rattle.meaning.specs.Numbers.{In, count}
+use Rattle.meaning.specs.Numbers.{In}
 use Rattle.meaning.specs.Placement.{held, Placement, Legal}
 use Rattle.meaning.specs.Full.{Full, whole, full}
 use Rattle.meaning.specs.Market.{Table}

@@ -19,7 +19,7 @@ use Rattle.checker.specs.Step.{may_strike, rows_with}
 use Rattle.checker.specs.Turns.{strikes_from, answer_from, Going}
 use Rattle.checker.proofs.Ways.{open-listed, step-opened}
 use Rattle.checker.proofs.Allowed.{its-place, on-its-list, step_same}
-use Rattle.meaning.specs.Numbers.{In, ◌&◌, count}
+use Rattle.meaning.specs.Numbers.{In, ◌&◌}
 use Rattle.meaning.specs.Lists.{place}
 use Rattle.meaning.specs.Placement.{Order}
 use Rattle.meaning.specs.Market.{Market, mutual?}
@@ -28,7 +28,6 @@ use Rattle.meaning.specs.Endings.{Outcome, outcome_fits}
 use Rattle.meaning.specs.Checker.{step_by, check_from}
 use Rattle.meaning.proofs.Booleans.{iff}
 use Rattle.meaning.proofs.Numbers.{order, same}
-use Rattle.meaning.proofs.Full.{listed}
 use Rattle.meaning.proofs.Records.{struck-last, struck-keeps, struck-new}
 use Rattle.rows.specs.Marks.{is_marked, with_mark}
 use Rattle.rows.proofs.Marking.{marked-at-place, marked-elsewhere}

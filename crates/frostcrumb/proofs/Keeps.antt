@@ -9,7 +9,7 @@ use native.Mathlib.Omega.{arith}
 use lib.ListN.{length}
 use Rattle.meaning.specs.Placement.{Placement}
 use Rattle.meaning.specs.Full.{Full, Received, whole, lacking, and_then, full}
-use Rattle.meaning.specs.Solver.{WholeRuling, head_of, ruled}
+use Rattle.meaning.specs.Solver.{ruled}
 use Rattle.meaning.specs.declared.Strike.{Strike}
 use Rattle.meaning.specs.declared.Ruled.{Ruled}
 use Rattle.meaning.specs.declared.Ruling.{Ruling}
@@ -19,7 +19,7 @@ use Rattle.tables.specs.Decode.{placement_of}
 use Rattle.tables.proofs.Round.{tables-back}
 use Rattle.solver.specs.Answer.{Given, refusing, solve_if_full, solve_if_read, solve_of}
 use Rattle.rulings.specs.Held.{roomy}
-use Rattle.frostcrumb.specs.Solve.{Left, leaving, leaving_if, solving}
+use Rattle.frostcrumb.specs.Solve.{Left, leaving_if, solving}
 use Rattle.frostcrumb.specs.Keeps.{SolveKeeps}
 
 module _ (h e o t : List ℕ) (log : List Strike) (l : Left) (r : Ruling) (rules : l.answer ≡ Ruled.Ruling r) where

@@ -1,14 +1,14 @@
 -- From what a core promises of plain cells to what the public function promises of the record: all that the walks use of the meaning.
 -- Assumes nothing.
 use Prim.Native.Nat.{ℕ, ◌≤◌, ◌*◌}
-use mathlib.Core.Path.{◌≡◌, sym, ap, ◌∙◌}
+use mathlib.Core.Path.{◌≡◌}
 use mathlib.Core.Option.{some}
 use mathlib.Core.List.{List}
 use native.Mathlib.Omega.{arith}
 use lib.ListN.{length}
 use Rattle.meaning.specs.declared.Strike.{Strike}
 use Rattle.meaning.specs.declared.Ruled.{Ruled}
-use Rattle.strikes.specs.Cells.{filled, strikes_in, recorded}
+use Rattle.strikes.specs.Cells.{filled, recorded}
 use Rattle.strikes.proofs.Encoding.{count-strikes}
 use Rattle.solver.specs.Answer.{solve_of, given_by}
 use Rattle.solver.proofs.Fits.{given-fits}

@@ -4,7 +4,6 @@ use Prim.Native.Nat.{ℕ, zero, suc}
 use mathlib.Core.Path.{◌≡◌, refl, sym, ap, ap₂, ◌∙◌}
 use mathlib.Core.List.{List}
 use lib.ListN.{get_or}
-use Rattle.meaning.specs.Placement.{depot}
 use Rattle.meaning.specs.Answers.{refusal, reason_number, reason_witness, strike_numbers, ending_numbers, ruling_numbers, refusal_numbers, reading_numbers, writing_numbers, receipt_numbers, tested_numbers, ruled_numbers, checked_numbers}
 use Rattle.meaning.specs.declared.Reason.{Reason}
 use Rattle.meaning.specs.declared.Strike.{Strike}

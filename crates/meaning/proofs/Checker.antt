@@ -14,7 +14,6 @@ use Rattle.meaning.specs.Endings.{Outcome, outcome_fits}
 use Rattle.meaning.specs.Solver.{WholeRuling, solve}
 use Rattle.meaning.specs.Checker.{step_by, check_from, check}
 use Rattle.meaning.specs.Truth.{TrueRuling, FirstWrong, wrong_strike, wrong_ending, Checks, accepted, not_allowed}
-use Rattle.meaning.proofs.Lists.{later, at}
 use Rattle.meaning.proofs.Full.{LegalFull, LegalOrders}
 use Rattle.meaning.proofs.Records.{record-on, record-from}
 use Rattle.meaning.proofs.Solver.{allowed-true, solved-allowed, solved-fits}

@@ -13,7 +13,6 @@ use Rattle.meaning.specs.Strikes.{Struck, above_struck, down_struck, ahead, fits
 use Rattle.meaning.specs.Endings.{NoneRoom}
 use Rattle.meaning.proofs.Booleans.{true-or-false, never, and_left, and_right, and_intro}
 use Rattle.meaning.proofs.Numbers.{order, same, count-but-one, count_none, FindPair, found-pair, no-pair, find-pair, Best, best, empty, greatest}
-use Rattle.meaning.proofs.Lists.{at}
 use Rattle.meaning.proofs.Pairs.{mutual-is, is-mutual, ahead-intro, above-intro, down-intro}
 use Rattle.meaning.specs.declared.Reason.{Reason}
 use Rattle.meaning.specs.declared.Reason.TheVariants.{Barred, HeldElsewhere, PostsGone, Passed}

@@ -15,7 +15,6 @@ use Rattle.meaning.specs.Strikes.{Struck, Left}
 use Rattle.meaning.specs.Endings.{NoneRoom}
 use Rattle.meaning.proofs.Booleans.{true-or-false, never, and_left, and_right, and_intro}
 use Rattle.meaning.proofs.Numbers.{order, same, sum-cong, sum_less, sum-swap, sum-out, sum-in, count-mono, count_less, Find, found, none_found, find}
-use Rattle.meaning.proofs.Lists.{at}
 use Rattle.meaning.proofs.Pairs.{down-use, above-intro}
 use Rattle.meaning.proofs.Sound.{Clear, gains-above, left-sits, left-best}
 

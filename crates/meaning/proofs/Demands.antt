@@ -9,12 +9,10 @@ use Rattle.meaning.specs.Placement.{Placement, Legal}
 use Rattle.meaning.specs.Full.{Full, whole, and_then, full}
 use Rattle.meaning.specs.Market.{market}
 use Rattle.meaning.specs.Endings.{placed_by}
-use Rattle.meaning.specs.Solver.{lowest, WholeRuling, head_of, solve, ruled}
+use Rattle.meaning.specs.Solver.{WholeRuling, head_of, solve, ruled}
 use Rattle.meaning.specs.Checker.{check}
 use Rattle.meaning.specs.Demands.{SolverKeeps, CheckerKeeps}
-use Rattle.meaning.proofs.Lists.{at}
 use Rattle.meaning.proofs.Full.{full-trainees, LegalFull, legal-full, LegalOrders, legal-orders}
-use Rattle.meaning.proofs.Left.{first}
 use Rattle.meaning.proofs.Solver.{strikes-lowest, strikes-exhausted, one-more-sweep, few_strikes, always-ruled, solved, solved-true, solved-first, exists-then-placed}
 use Rattle.meaning.proofs.Checker.{check-says, accepted-true, solved-accepted}
 use Rattle.meaning.proofs.Existence.{always-placed}

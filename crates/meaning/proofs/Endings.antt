@@ -12,19 +12,18 @@ use lib.Dec.{eqb}
 use borrow.Author.Tests.{ltb-true, lt-ltb, eqb-true, eq-eqb, not-true}
 use Rattle.meaning.specs.Numbers.{In}
 use Rattle.meaning.specs.Lists.{place, Each, each_none, each_more, some?}
-use Rattle.meaning.specs.Placement.{held, Order, depot}
+use Rattle.meaning.specs.Placement.{held, Order}
 use Rattle.meaning.specs.Market.{Market, same_kind, names, standing, Lawful, Table, mutual?, Gains, free, better, spare, Respecting}
 use Rattle.meaning.specs.Strikes.{Struck, down_struck, Exhausted, left?, Left}
 use Rattle.meaning.specs.Endings.{Outcome, placed_by, none_held, none_room, table_of, left_table, left_of, within?, respecting?, broken?, first_broken, NoneRoom, room?, room_or, room_from, none_room_of, placed_or, held_or, outcome_of, same_cells, outcome_fits}
 use Rattle.meaning.specs.Truth.{TrueOutcome, FirstBroken, FirstRoom, FirstNamed}
 use Rattle.meaning.proofs.Booleans.{true-or-false, never, is_false, and_left, and_right, and_intro, and-not, some-own, none-some}
-use Rattle.meaning.proofs.Numbers.{last, order, same, Smallest, least, no-least, smallest-is}
-use Rattle.meaning.proofs.Lists.{here, at, Passes, some-use, some-here, some-later}
+use Rattle.meaning.proofs.Numbers.{order, same, Smallest, least, no-least, smallest-is}
+use Rattle.meaning.proofs.Lists.{Passes, some-use, some-here, some-later}
 use Rattle.meaning.proofs.Pairs.{mutual-is, is-mutual, down-use}
 use Rattle.meaning.proofs.Sound.{Clear, left-sits, left-best, none-held-sound}
 use Rattle.meaning.proofs.Counting.{none-room-sound}
 use Rattle.meaning.proofs.Complete.{Fitting, respecting, room, HeldOpen, fitting}
-use Rattle.meaning.proofs.Full.{listed}
 use Rattle.meaning.proofs.Left.{left-pair, left-unstruck, left-table}
 use Rattle.meaning.proofs.Matchings.{within-is, is_within, names-kind, names-trainee, names-depot, names-own, respecting-is, is-respecting}
 

@@ -14,7 +14,7 @@ use Rattle.meaning.specs.Placement.{Kind, held, barred, Order, Depot, depot, Pla
 use Rattle.meaning.specs.Full.{FullDepot, Full, Received, whole, lacking, and_then, on_line, full_depot, all_from, full, is_not_received, depot_lacks, lines_where, lacking_lines}
 use Rattle.meaning.specs.Market.{trainee_list, no_depot, depot_of, market, names, standing, Ranged, Strict, Lawful}
 use Rattle.meaning.proofs.Numbers.{order}
-use Rattle.meaning.proofs.Lists.{at, place-inj, each-place, each_at, some-use}
+use Rattle.meaning.proofs.Lists.{place-inj, each-place, each_at, some-use}
 use Rattle.meaning.proofs.Matchings.{names-trainee, names-depot}
 
 -- ---- one after the other

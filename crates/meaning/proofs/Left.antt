@@ -15,8 +15,7 @@ use Rattle.meaning.specs.Market.{Market, Ranged, Mutual, mutual?}
 use Rattle.meaning.specs.Strikes.{Struck, left?, first_left, Left}
 use Rattle.meaning.specs.Endings.{table_of, left_from, left_table, left_of}
 use Rattle.meaning.proofs.Booleans.{never, and_left, and_right, and_intro}
-use Rattle.meaning.proofs.Numbers.{best}
-use Rattle.meaning.proofs.Lists.{at, place-cases, place-later, place_here}
+use Rattle.meaning.proofs.Lists.{place-cases, place-later, place_here}
 use Rattle.meaning.proofs.Pairs.{mutual-is, is-mutual}
 
 -- what the first left on a list is: no other that is left stands higher

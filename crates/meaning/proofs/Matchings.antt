@@ -5,7 +5,6 @@ use mathlib.Core.Path.{◌≡◌, refl, ap, subst}
 use mathlib.Core.Logic.{⊎_elim}
 use mathlib.Core.Bool.{Bool, true, not, false≢true}
 use mathlib.Core.List.{List, [], ◌∷◌}
-use lib.ListN.{take}
 use lib.Dec.{ltb, eqb}
 use borrow.Author.Tests.{ltb-true, lt-ltb, leb-true, le-leb, eqb-true, eqb-false, eq-eqb, ne_eqb, not-true}
 use Rattle.meaning.specs.Numbers.{In, ◌&◌, ◌or◌, imp, all}
@@ -14,7 +13,7 @@ use Rattle.meaning.specs.Placement.{Kind, held, barred, Order}
 use Rattle.meaning.specs.Market.{Market, same_kind, names, standing, Ranged, Table, mutual?, placed, Gains, free, better, Takes, spare, worse, Blocks, Stable, Respecting}
 use Rattle.meaning.specs.Endings.{blocks?, within?, stable?, obeys?, obeys_all?, respecting?}
 use Rattle.meaning.proofs.Booleans.{true-or-false, never, is_false, and_left, and_right, and_intro, or_cases, or_left, or_right, imp_use, imp_intro}
-use Rattle.meaning.proofs.Numbers.{last, Find, found, none_found, find, all-use, all-intro}
+use Rattle.meaning.proofs.Numbers.{Find, found, none_found, find, all-use, all-intro}
 use Rattle.meaning.proofs.Lists.{some-here, some-later, some-cases}
 use Rattle.meaning.proofs.Pairs.{mutual-is, is-mutual}
 

@@ -11,7 +11,6 @@ use lib.Dec.{leb, eqb}
 use borrow.Author.Tests.{leb-true, leb-false, eqb-true, eqb-false, eq-eqb, ne_eqb}
 use Rattle.meaning.specs.Numbers.{In, all, bit, sum, count, first_from, smallest}
 use Rattle.meaning.proofs.Booleans.{true-or-false, never}
-use Rattle.meaning.proofs.Lists.{at}
 
 -- ---- In
 

@@ -10,12 +10,10 @@ use native.Mathlib.Nat.{le_trans, lt_irrefl}
 use lib.Dec.{ltb, leb, eqb}
 use borrow.Author.Tests.{ltb-true, lt-ltb, leb-true, le-leb, eqb-true, eq-eqb}
 use Rattle.meaning.specs.Numbers.{In, ◌&◌, smallest}
-use Rattle.meaning.specs.Placement.{depot}
 use Rattle.meaning.specs.Market.{Market, Ranged, Table, Mutual, placed, Gains, free, better, Takes, spare, worse, Stable}
 use Rattle.meaning.specs.Paper.{PairSet, Acceptable, depots_of, trainees_of, PaperMatching, PaperStable, pairs_of, or_none, table_from}
 use Rattle.meaning.proofs.Booleans.{never, is_false, iff, and_left, and_right, and_intro}
 use Rattle.meaning.proofs.Numbers.{order, same, count-mono, count_less, count-cong, count-one, count-two, count_none, Smallest, least, no-least, smallest-is}
-use Rattle.meaning.proofs.Lists.{at}
 
 -- ---- the pairs of a table
 

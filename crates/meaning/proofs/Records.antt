@@ -16,7 +16,6 @@ use Rattle.meaning.specs.Market.{Market, Standing, Lawful, Table, mutual?, Respe
 use Rattle.meaning.specs.Strikes.{Struck, nothing, above_struck, down_struck, ahead, fits, allowed, struck, AllowedRecord, start, more, AllowedFrom, end, next, Exhausted, weight, mutual_pairs}
 use Rattle.meaning.proofs.Booleans.{true-or-false, never, iff, and_left, and_right, and_intro}
 use Rattle.meaning.proofs.Numbers.{sum_mono, sum_less, count-mono, count_less}
-use Rattle.meaning.proofs.Lists.{at}
 use Rattle.meaning.proofs.Pairs.{mutual-is, above-use, down-use, above-intro, down-intro}
 use Rattle.meaning.proofs.Sound.{Clear, strike-sound}
 use Rattle.meaning.specs.declared.Reason.{Reason}

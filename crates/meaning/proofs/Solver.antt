@@ -8,7 +8,7 @@ use mathlib.Core.List.{List, [], ◌∷◌, ◌++◌}
 use native.Mathlib.Omega.{arith}
 use lib.ListN.{length, length-append}
 use Rattle.meaning.specs.Lists.{place, Each, each_none}
-use Rattle.meaning.specs.Placement.{Order, depot}
+use Rattle.meaning.specs.Placement.{Order}
 use Rattle.meaning.specs.Full.{Full}
 use Rattle.meaning.specs.Market.{Market, trainee_list, market, Standing, standing, Lawful, Table, mutual?, Respecting}
 use Rattle.meaning.specs.Strikes.{Struck, nothing, allowed, struck, AllowedRecord, start, more, Exhausted, mutual_pairs}
@@ -16,7 +16,7 @@ use Rattle.meaning.specs.Endings.{Outcome, placed_by, none_held, none_room, tabl
 use Rattle.meaning.specs.Solver.{rows_by, sweeps_by, LowestRecord, begun, lower, visit, strikes_of, WholeRuling, ruling_by, solve}
 use Rattle.meaning.specs.Truth.{TrueOutcome, TrueStrike, TrueRuling, FirstNamed}
 use Rattle.meaning.proofs.Booleans.{never, is_false, some-own, none-some}
-use Rattle.meaning.proofs.Lists.{at, each-end}
+use Rattle.meaning.proofs.Lists.{each-end}
 use Rattle.meaning.proofs.Pairs.{mutual-is}
 use Rattle.meaning.proofs.Sound.{Clear, strike-sound}
 use Rattle.meaning.proofs.Full.{LegalFull, LegalOrders, lawful-market, listed}

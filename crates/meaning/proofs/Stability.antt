@@ -18,10 +18,9 @@ use Rattle.meaning.specs.Stability.{first_stranger, first_over, first_on, blocki
 use Rattle.meaning.specs.Truth.{TestSays, says_stable, says_stranger, says_over, says_blocking}
 use Rattle.meaning.proofs.Booleans.{true-or-false, never, and_left, and_right, and_intro}
 use Rattle.meaning.proofs.Numbers.{same, Smallest, least, no-least, smallest-is}
-use Rattle.meaning.proofs.Lists.{at, place-cases, place-later, place_here}
+use Rattle.meaning.proofs.Lists.{place-cases, place-later, place_here}
 use Rattle.meaning.proofs.Pairs.{mutual-is, is-mutual}
 use Rattle.meaning.proofs.Full.{LegalFull, ranged-market, listed}
-use Rattle.meaning.proofs.Left.{first}
 use Rattle.meaning.proofs.Matchings.{blocks_is, is-blocks}
 use Rattle.meaning.specs.declared.Tested.{Tested}
 use Rattle.meaning.specs.declared.Tested.TheVariants.{Blocking}

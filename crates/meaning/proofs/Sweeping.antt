@@ -11,10 +11,9 @@ use lib.Dec.{eqb}
 use borrow.Author.Tests.{eqb-true, eqb-false}
 use Rattle.meaning.specs.Numbers.{In}
 use Rattle.meaning.specs.Lists.{place}
-use Rattle.meaning.specs.Placement.{size}
 use Rattle.meaning.specs.Solver.{row_by, rows_by, sweeps_by}
 use Rattle.meaning.proofs.Numbers.{same}
-use Rattle.meaning.proofs.Lists.{at, place-cases}
+use Rattle.meaning.proofs.Lists.{place-cases}
 
 -- what a visit does: nothing, and then there was nothing to do there; or it does more
 pub data Does {A : Type 0} (size : A → ℕ) (Idle : A → ℕ → ℕ → Type 0) (i j : ℕ) (a : A) : A → Type 0 where

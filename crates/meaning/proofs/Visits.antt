@@ -8,7 +8,6 @@ use mathlib.Core.Option.{Option, none, some}
 use mathlib.Core.List.{List, [], ◌∷◌, ◌++◌}
 use native.Mathlib.Omega.{arith}
 use Rattle.meaning.specs.Numbers.{In}
-use Rattle.meaning.specs.Placement.{depot}
 use Rattle.meaning.specs.Market.{Market, Standing, Lawful, mutual?}
 use Rattle.meaning.specs.Strikes.{Struck, fits, allowed, struck, AllowedRecord, start, more, left?}
 use Rattle.meaning.specs.Answers.{reason_number, reason_witness}

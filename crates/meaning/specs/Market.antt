@@ -2,7 +2,7 @@
 -- mutual pairs, matchings, blocking pairs, stable and respecting matchings.
 -- Trainees are 1 to n and depots 1 to m. A rank is a place on a list, counted from 1; 0 is unranked. In a table 0 is no depot.
 -- Assumes nothing.
-use Rattle.std.specs.Prelude.{ℕ, zero, suc, ◌≤◌, ◌<◌, ◌≡◌, Bool, true, false, List, [], ◌∷◌, length, get_or, ltb, eqb}
+use Rattle.std.specs.Prelude.{ℕ, ◌≤◌, ◌<◌, ◌≡◌, Bool, true, false, List, [], ◌∷◌, length, get_or, ltb, eqb}
 use Rattle.meaning.specs.Numbers.{In, ◌&◌, count}
 use Rattle.meaning.specs.Lists.{place, some?}
 use Rattle.meaning.specs.Placement.{Kind, held, barred, Order}

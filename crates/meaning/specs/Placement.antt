@@ -1,7 +1,7 @@
 -- What a placement says, and which are legal (document 01, "What a placement means", first paragraph).
 -- A list or a number of posts is received, `some`, or not received, `none`. A received list may be empty, and 0 is a received number.
 -- Assumes nothing.
-use Rattle.std.specs.Prelude.{ℕ, zero, suc, ◌+◌, ◌≤◌, ◌≡◌, List, [], ◌∷◌, length}
+use Rattle.std.specs.Prelude.{ℕ, ◌≤◌, ◌≡◌, List, length}
 use Rattle.std.proofs.Math.Option.{Option, none, some}
 use Rattle.meaning.specs.Numbers.{In}
 use Rattle.meaning.specs.Lists.{Distinct, Each, weigh}

@@ -3,7 +3,7 @@
 use Rattle.std.specs.Prelude.{ℕ, zero, suc, ◌≤◌, ◌≡◌, Bool, true, false, List, [], ◌∷◌, ◌++◌, length, eqb}
 use Rattle.std.proofs.Math.Option.{Option, none, some}
 use Rattle.meaning.specs.Numbers.{smallest}
-use Rattle.meaning.specs.Placement.{Order, depot, Placement, size}
+use Rattle.meaning.specs.Placement.{Order, Placement, size}
 use Rattle.meaning.specs.Full.{Full, Received, whole, and_then, full}
 use Rattle.meaning.specs.Market.{Market, trainee_list, market, Standing, standing}
 use Rattle.meaning.specs.Strikes.{Struck, nothing, fits, struck, left?, mutual_pairs}

@@ -1,6 +1,6 @@
 -- The stability test's answer (document 01, "The stability test takes a table alone"): held and barred pairs don't matter to it.
 -- Assumes nothing.
-use Rattle.std.specs.Prelude.{ℕ, zero, suc, Bool, true, false, not, List, [], ◌∷◌, ltb}
+use Rattle.std.specs.Prelude.{ℕ, zero, suc, true, false, not, List, [], ◌∷◌, ltb}
 use Rattle.std.proofs.Math.Option.{Option, none, some}
 use Rattle.meaning.specs.Numbers.{◌&◌, smallest}
 use Rattle.meaning.specs.Full.{Full}

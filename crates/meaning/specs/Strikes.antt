@@ -1,6 +1,6 @@
 -- Strikes (document 01, "Strikes and endings"): the four reasons, records of strikes, the left table.
 -- Assumes nothing.
-use Rattle.std.specs.Prelude.{ℕ, zero, suc, ◌≤◌, ◌<◌, ◌≡◌, Bool, true, false, not, List, [], ◌∷◌, ◌++◌, ltb, leb, eqb}
+use Rattle.std.specs.Prelude.{ℕ, ◌≤◌, ◌<◌, ◌≡◌, Bool, true, false, not, List, [], ◌∷◌, ◌++◌, ltb, leb, eqb}
 use Rattle.meaning.specs.Numbers.{In, ◌&◌, imp, all, sum, count}
 use Rattle.meaning.specs.Market.{Market, Standing, Table, Mutual, mutual?}
 use Rattle.meaning.specs.declared.Reason.{Reason}

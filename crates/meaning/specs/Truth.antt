@@ -3,7 +3,7 @@
 use Rattle.std.specs.Prelude.{ℕ, ◌+◌, ◌≤◌, ◌<◌, ◌≡◌, true, false, List, ◌∷◌, ◌++◌, length}
 use Rattle.meaning.specs.Numbers.{In}
 use Rattle.meaning.specs.Lists.{Each}
-use Rattle.meaning.specs.Placement.{Order, depot}
+use Rattle.meaning.specs.Placement.{Order}
 use Rattle.meaning.specs.Market.{Market, Standing, Table, Mutual, placed, Matching, Blocks, Stable, Respecting}
 use Rattle.meaning.specs.Strikes.{Struck, nothing, allowed_strike, struck, AllowedFrom}
 use Rattle.meaning.specs.Endings.{Outcome, placed_by, none_held, none_room, table_of, left_of, broken?, room?, outcome_fits}

@@ -4,7 +4,7 @@ use Prim.Native.Nat.{ℕ, zero, suc, ◌+◌, ◌≤◌}
 use mathlib.Core.Path.{◌≡◌, refl, sym, ◌∙◌, subst}
 use mathlib.Core.Logic.{◌⊎◌, inl, inr}
 use mathlib.Core.Bool.{true, false}
-use mathlib.Core.Option.{none, some}
+use mathlib.Core.Option.{none}
 use mathlib.Core.List.{List, [], ◌∷◌, ◌++◌}
 use native.Mathlib.Omega.{arith}
 use lib.ListN.{length}
@@ -12,7 +12,7 @@ use Rattle.meaning.specs.Lists.{each_none, each_more, weigh}
 use Rattle.meaning.specs.Placement.{Order, depot, Placement, Legal, no_list, no_posts, legal_depot, size, depot_size}
 use Rattle.meaning.proofs.Booleans.{true-or-false}
 use Rattle.fields.specs.Bytes.{stop?, word_of, rest_of}
-use Rattle.fields.specs.Reader.{Step, got, refusal, Reader, next, on_line, line, at_end, lines}
+use Rattle.fields.specs.Reader.{Step, got, refusal, Reader, next, on_line, line, at_end}
 use Rattle.fields.proofs.Steps.{went, on_line_lem}
 use Rattle.fields.proofs.Words.{Word, stops, word-there, rest-there, word-rest}
 use Rattle.placement_text.specs.Writer.{write_trainee, write_depot, write_orders, write_end, text_of}

@@ -9,7 +9,7 @@ use native.Mathlib.Omega.{arith}
 use lib.ListN.{length, length-append}
 use Rattle.meaning.specs.Numbers.{In}
 use Rattle.meaning.specs.Lists.{Each, each_none, each_more, weigh}
-use Rattle.meaning.specs.Placement.{Kind, held, barred, Order, Depot, depot, Placement, LegalList, no_list, a_list, LegalPosts, no_posts, some_posts, LegalDepot, legal_depot, LegalOrder, Legal, size, depot_size}
+use Rattle.meaning.specs.Placement.{Kind, held, barred, Order, Depot, Placement, LegalList, no_list, a_list, LegalPosts, no_posts, some_posts, LegalDepot, legal_depot, LegalOrder, Legal, size, depot_size}
 use Rattle.fields.specs.Writer.{write_number, write_lines}
 use Rattle.fields.proofs.Digits.{three-digits}
 use Rattle.placement_text.specs.Words.{letter}

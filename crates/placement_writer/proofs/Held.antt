@@ -13,7 +13,7 @@ use Rattle.meaning.specs.Numbers.{In}
 use Rattle.meaning.specs.Placement.{Kind, held, barred, Order, Depot, depot, Placement, LegalList, a_list, LegalPosts, no_posts, some_posts}
 use Rattle.meaning.proofs.Booleans.{never}
 use Rattle.fields.specs.Writer.{write_lines}
-use Rattle.tables.specs.Cells.{missing_cell, part, posts_cell, length_cell, kind_cell, trainee_start, depot_start, order_start}
+use Rattle.tables.specs.Cells.{missing_cell, posts_cell, length_cell, kind_cell, trainee_start, depot_start, order_start}
 use Rattle.tables.specs.Decode.{Sides, placement_of}
 use Rattle.tables.specs.Walk.{is_some}
 use Rattle.tables.proofs.Seen.{ListSeen, DepotSeen, part-seen, SidesSeen, sides-seen}

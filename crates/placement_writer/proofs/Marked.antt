@@ -1,7 +1,7 @@
 -- The lines of a placement's text that have a field `?` are those where something was not received: numbers are digits, and no word is `?`.
 -- Assumes nothing.
 use Prim.Native.Nat.{ℕ, suc, ◌+◌}
-use mathlib.Core.Path.{◌≡◌, refl, sym, ap, ap₂, ◌∙◌}
+use mathlib.Core.Path.{◌≡◌, refl, sym, ap, ◌∙◌}
 use mathlib.Core.Logic.{◌⊎◌, inl, inr}
 use mathlib.Core.Bool.{Bool, true, false}
 use mathlib.Core.Option.{Option, none, some}
@@ -12,7 +12,7 @@ use lib.ListN.{length}
 use Rattle.meaning.specs.Numbers.{◌&◌, ◌or◌}
 use Rattle.meaning.specs.Lists.{Each, each_none, each_more, some?}
 use Rattle.meaning.specs.Placement.{Kind, held, barred, Order, Depot, depot, Placement}
-use Rattle.meaning.specs.Full.{Full, Received, is_not_received, depot_lacks, lines_where, lacking_lines, full}
+use Rattle.meaning.specs.Full.{Full, is_not_received, depot_lacks, lines_where, lacking_lines, full}
 use Rattle.meaning.proofs.Booleans.{true-or-false}
 use Rattle.meaning.proofs.Full.{Lines, full-lines}
 use Rattle.fields.specs.Bytes.{TAB, LF, stop?, same}
@@ -21,7 +21,7 @@ use Rattle.fields.specs.Writer.{write_number, write_lines}
 use Rattle.fields.specs.Parted.{before, parted}
 use Rattle.fields.proofs.Digits.{value-digits}
 use Rattle.fields.proofs.Words.{Word, same-eq, digits-word}
-use Rattle.fields.proofs.Parted.{Free, parted-at, after, fields-parted, fields-one-line}
+use Rattle.fields.proofs.Parted.{parted-at, after, fields-parted, fields-one-line}
 use Rattle.placement_text.specs.Words.{word_placement, word_T, word_D, word_?, letter}
 use Rattle.placement_text.specs.Writer.{or_mark, write_received, write_entries, write_list, write_trainee, write_depot, write_order, write_orders, write_head, write_end, above_end, text_of}
 use Rattle.placement_writer.specs.Marked.{mark?, marked?, marked_lines}

@@ -16,7 +16,7 @@ use Rattle.meaning.specs.Lists.{place}
 use Rattle.meaning.specs.Market.{Ranged, Strict, mutual?}
 use Rattle.meaning.proofs.Booleans.{true-or-false}
 use Rattle.meaning.proofs.Numbers.{order}
-use Rattle.meaning.proofs.Lists.{at, place-inj}
+use Rattle.meaning.proofs.Lists.{place-inj}
 use Rattle.tables.specs.Cells.{trainee_start, depot_start, part}
 use Rattle.tables.specs.Decode.{within}
 use Rattle.tables.proofs.Tests.{in_within, within_in}

@@ -19,12 +19,11 @@ use Rattle.reasons.proofs.Counts.{count-list}
 use Rattle.reasons.proofs.Least.{smallest-list}
 use Rattle.meaning.specs.Numbers.{In, ◌&◌, smallest}
 use Rattle.meaning.specs.Lists.{place}
-use Rattle.meaning.specs.Market.{Standing, Mutual, free}
+use Rattle.meaning.specs.Market.{Standing, Mutual}
 use Rattle.meaning.specs.Strikes.{Struck, above_struck, down_struck, ahead, fits}
 use Rattle.meaning.specs.Solver.{lowest, choose}
-use Rattle.meaning.specs.Examples.{hold}
 use Rattle.meaning.proofs.Booleans.{true-or-false, never, iff, and_left, and_right, and_intro}
-use Rattle.meaning.proofs.Numbers.{order, same, count-cong, found, Smallest, least, no-least, smallest-is}
+use Rattle.meaning.proofs.Numbers.{order, same, count-cong, Smallest, least, no-least, smallest-is}
 use Rattle.meaning.proofs.Pairs.{ahead-pair, ahead-less, ahead-intro}
 use Rattle.rows.specs.Marks.{is_marked, with_mark, turned}
 use Rattle.rows.specs.Left.{first_place_left}
@@ -32,7 +31,6 @@ use Rattle.rows.proofs.Marking.{marked-at-place, marked-elsewhere, turned-at}
 use Rattle.rows.proofs.FirstPlace.{before-first-marked, first-unmarked}
 use Rattle.tables.proofs.Tests.{in_within}
 use Rattle.tables.proofs.Entries.{inside}
-use Rattle.tables.proofs.Views.{no-depot}
 use Rattle.ranks.specs.View.{n_of, m_of, wishes_of, ranking_of, posts_of, market_of, Names, FullTables}
 use Rattle.ranks.proofs.Places.{front-test, once-take, names-take}
 use Rattle.ranks.proofs.Tables.{ranged-tables}

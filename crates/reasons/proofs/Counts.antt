@@ -14,7 +14,6 @@ use borrow.Author.Tests.{lt-ltb, eq-eqb, ne_eqb}
 use Rattle.reasons.specs.Scans.{count_in, smaller_if, least_in}
 use Rattle.meaning.specs.Numbers.{In, ◌&◌, bit, sum, count}
 use Rattle.meaning.specs.Lists.{place}
-use Rattle.meaning.specs.Full.{whole}
 use Rattle.meaning.proofs.Numbers.{same, sum-cong, sum-zero, sum-plus, sum-in}
 use Rattle.meaning.proofs.Lists.{At, here, later, nowhere, at}
 use Rattle.ranks.specs.View.{Once, Names}

@@ -15,7 +15,7 @@ use Rattle.reasons.specs.Rows.{row_pairs, standing_of}
 use Rattle.reasons.specs.Orders.{kind_of, order_in, trainee_in, depot_in, orders_in, FullOrders, mark_for, Noted}
 use Rattle.meaning.specs.Numbers.{In, ◌&◌, ◌or◌}
 use Rattle.meaning.specs.Lists.{Each, some?}
-use Rattle.meaning.specs.Placement.{Kind, held, barred, Order, depot, LegalOrder}
+use Rattle.meaning.specs.Placement.{Kind, held, barred, Order, LegalOrder}
 use Rattle.meaning.specs.Market.{same_kind, names, standing}
 use Rattle.meaning.proofs.Booleans.{never, iff, and_left, and_right, and_intro}
 use Rattle.meaning.proofs.Numbers.{order, same}

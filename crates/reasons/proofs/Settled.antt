@@ -14,17 +14,13 @@ use Rattle.meaning.specs.Numbers.{In}
 use Rattle.meaning.specs.Lists.{place}
 use Rattle.meaning.specs.Market.{Market, Ranged, Mutual}
 use Rattle.meaning.specs.Strikes.{Struck, above_struck, down_struck, left?}
-use Rattle.meaning.specs.Examples.{hold}
 use Rattle.meaning.proofs.Booleans.{true-or-false, never, is_false, iff, and_left, and_right, and_intro}
 use Rattle.meaning.proofs.Numbers.{order}
-use Rattle.meaning.proofs.Lists.{at}
 use Rattle.meaning.proofs.Pairs.{above-use, down-use, above-intro, down-intro}
-use Rattle.meaning.proofs.Full.{listed}
 use Rattle.meaning.proofs.Left.{left-pair, left-unstruck, is-left}
 use Rattle.rows.specs.Marks.{is_marked}
 use Rattle.rows.specs.Left.{first_place_left}
 use Rattle.rows.proofs.FirstPlace.{before-first-marked, first-unmarked}
-use Rattle.tables.proofs.Entries.{inside}
 use Rattle.ranks.proofs.Places.{place-le, at_place, place-at-most}
 
 module _ (K : Market) (ranged : Ranged K) (lists : ℕ → List ℕ) (listed : (i j : ℕ) → K.trainee_rank i j ≡ place (lists i) j)

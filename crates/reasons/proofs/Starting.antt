@@ -19,7 +19,6 @@ use Rattle.meaning.proofs.Numbers.{order, same}
 use Rattle.rows.specs.Marks.{is_marked, mark_if, past_end}
 use Rattle.rows.proofs.Marking.{row-where-at, past-end-fits, past-end-at}
 use Rattle.rows.proofs.Filling.{Filled, filled_none, filled_more, filled-all}
-use Rattle.tables.proofs.Entries.{inside}
 use Rattle.ranks.specs.View.{n_of, wishes_of, ranking_of, market_of}
 use Rattle.ranks.proofs.Places.{place-of-at}
 

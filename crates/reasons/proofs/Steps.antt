@@ -15,10 +15,8 @@ use Rattle.meaning.specs.Numbers.{◌&◌, bit}
 use Rattle.meaning.specs.Lists.{place}
 use Rattle.meaning.specs.Solver.{lowest}
 use Rattle.meaning.proofs.Booleans.{and_left, and_right, and_intro}
-use Rattle.meaning.proofs.Lists.{at}
 use Rattle.rows.specs.Marks.{is_marked, with_mark, turned}
 use Rattle.rows.specs.Left.{first_place_left}
-use Rattle.tables.specs.Cells.{part}
 use Rattle.ranks.specs.View.{n_of, wishes_of, ranking_of, posts_of, Names, FullTables}
 use Rattle.ranks.proofs.Places.{place-le, names-take}
 use Rattle.meaning.specs.declared.Reason.TheVariants.{Barred, HeldElsewhere, PostsGone, Passed}

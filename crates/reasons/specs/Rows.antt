@@ -4,7 +4,6 @@
 use Rattle.std.specs.Prelude.{ℕ, ◌-◌, ◌<◌, ◌≡◌, Bool, true, not, List, length, get_or, ltb}
 use Rattle.meaning.specs.Numbers.{In, ◌&◌}
 use Rattle.meaning.specs.Lists.{place}
-use Rattle.meaning.specs.Placement.{held, barred}
 use Rattle.meaning.specs.Market.{Market, Standing}
 use Rattle.meaning.specs.Strikes.{Struck, left?}
 use Rattle.rows.specs.Marks.{is_marked, row_where}

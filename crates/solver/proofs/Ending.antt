@@ -18,7 +18,6 @@ use Rattle.meaning.specs.Lists.{place}
 use Rattle.meaning.specs.Market.{Market, Table, Mutual, mutual?, placed}
 use Rattle.meaning.specs.Strikes.{Struck, down_struck, left?, first_left}
 use Rattle.meaning.specs.Endings.{left_of, room?}
-use Rattle.meaning.specs.Examples.{hold}
 use Rattle.meaning.proofs.Booleans.{true-or-false, never, is_false, iff, and_left, and_right, and_intro}
 use Rattle.meaning.proofs.Numbers.{order, Smallest, least, no-least, smallest-is}
 use Rattle.meaning.proofs.Pairs.{mutual-is, is-mutual}

@@ -1,32 +1,27 @@
 -- The guards of the solver, in the order in which they are tried: each way through the code against the definition.
 -- Assumes nothing.
-use Prim.Native.Nat.{ℕ, ◌≤◌}
+use Prim.Native.Nat.{ℕ}
 use mathlib.Core.Path.{◌≡◌, refl, sym, ap, ◌∙◌}
 use mathlib.Core.Bool.{true, false, true≢false, false≢true}
 use mathlib.Core.Option.{Option, none, some}
 use mathlib.Core.List.{List}
 use lib.ListN.{length}
-use lib.Dec.{leb}
-use borrow.Author.Tests.{leb-true}
 use Rattle.solver.specs.Solved.{SolvedAs}
 use Rattle.solver.specs.Answer.{solve_if_full, solve_if_read, solve_of, given_by}
 use Rattle.rulings.specs.Held.{roomy}
 use Rattle.solver.proofs.Whole.{full-orders, orders-fine}
-use Rattle.meaning.specs.Numbers.{◌&◌}
 use Rattle.meaning.specs.Placement.{Placement}
 use Rattle.meaning.specs.Full.{Full, Received, whole, lacking, and_then, full}
 use Rattle.meaning.specs.Solver.{WholeRuling, head_of, solve, ruled}
 use Rattle.meaning.specs.Answers.{SHORT_PART, NOT_RECEIVED, NOT_READ, refusal}
 use Rattle.meaning.specs.declared.Ruled.{Ruled}
 use Rattle.meaning.specs.declared.Ruling.{Ruling}
-use Rattle.meaning.proofs.Booleans.{and_left, and_right}
 use Rattle.meaning.proofs.Solver.{always-ruled}
 use Rattle.tables.specs.Decode.{Sides, sides_of, placement_of}
-use Rattle.tables.specs.Answers.{sized, full_sides, lacking_line}
+use Rattle.tables.specs.Answers.{full_sides, lacking_line}
 use Rattle.tables.specs.Walk.{is_some}
 use Rattle.tables.proofs.Round.{parts}
 use Rattle.tables.proofs.Lines.{full-sides, IsWhole, whole-at-zero}
-use Rattle.tables.proofs.Receipts.{Sizes, sizes}
 use Rattle.tables.proofs.Views.{TablesSeen, tables-seen}
 use Rattle.ranks.specs.View.{FullTables}
 use Rattle.ranks.proofs.Held.{full-tables}

@@ -16,7 +16,6 @@ use Rattle.tables.proofs.Tests.{within_in}
 use Rattle.ranks.specs.View.{n_of, m_of, wishes_of, market_of, FullTables}
 use Rattle.ranks.proofs.Tables.{ranged-tables, strict-tables}
 use Rattle.reasons.specs.Rows.{row_pairs, standing_of}
-use Rattle.strikes.proofs.Turns.{holds}
 
 module _ (h e holds bars : List ℕ) (ft : FullTables h e) where
   pair-trainee : (rows : List ℕ) (i j : ℕ) → row_pairs (n_of h) (m_of h) rows i j ≡ true → In (n_of h) i

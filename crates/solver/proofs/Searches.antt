@@ -13,13 +13,12 @@ use lib.Seq.{drop-cons, get_or-drop, get_or-set_same, get_or-set_other, ext_get_
 use Rattle.solver.specs.Ends.{struck_in, left_in, broken_in, broken_pair}
 use Rattle.solver.proofs.Ending.{left-table-same}
 use Rattle.meaning.specs.Numbers.{In, ◌&◌, smallest}
-use Rattle.meaning.specs.Placement.{held, Order, depot}
+use Rattle.meaning.specs.Placement.{held, Order}
 use Rattle.meaning.specs.Market.{same_kind, Table}
 use Rattle.meaning.specs.Strikes.{fits}
 use Rattle.meaning.specs.Endings.{Outcome, none_room, table_of, left_table, broken?, first_broken, room?, room_or, room_from}
 use Rattle.meaning.specs.Examples.{hold}
 use Rattle.meaning.proofs.Numbers.{order, same}
-use Rattle.meaning.proofs.Lists.{at}
 use Rattle.meaning.proofs.Left.{left-table-length}
 use Rattle.rows.specs.Left.{first_place_left}
 use Rattle.tables.specs.Cells.{laid, order_start}

@@ -13,7 +13,7 @@ use Rattle.solver.specs.Going.{Going, Came, visit_of}
 use Rattle.solver.proofs.Lawful.{lawful-tables, listed-tables, nothing-mutual}
 use Rattle.meaning.specs.Market.{Lawful}
 use Rattle.meaning.specs.Strikes.{nothing, mutual_pairs}
-use Rattle.meaning.specs.Solver.{row_by, rows_by, sweeps_by, LowestRecord, visit}
+use Rattle.meaning.specs.Solver.{row_by, rows_by, sweeps_by, LowestRecord}
 use Rattle.meaning.proofs.Solver.{bound, sweep-grows, sweep-same}
 use Rattle.ranks.specs.View.{n_of, wishes_of, market_of}
 use Rattle.reasons.specs.Rows.{standing_of}

@@ -16,11 +16,9 @@ use Rattle.solver.specs.Going.{Going, Came, visit_of}
 use Rattle.solver.proofs.Lawful.{lawful-tables, listed-tables, nothing-mutual}
 use Rattle.meaning.specs.Numbers.{In, ◌&◌}
 use Rattle.meaning.specs.Lists.{place}
-use Rattle.meaning.specs.Placement.{depot}
 use Rattle.meaning.specs.Market.{Market, Standing, Lawful, mutual?}
 use Rattle.meaning.specs.Strikes.{Struck, nothing, struck, left?}
-use Rattle.meaning.specs.Solver.{lowest, choose, LowestRecord, strike_for, visit}
-use Rattle.meaning.specs.Examples.{hold}
+use Rattle.meaning.specs.Solver.{choose, LowestRecord, strike_for, visit}
 use Rattle.meaning.proofs.Booleans.{iff}
 use Rattle.meaning.proofs.Numbers.{order, same}
 use Rattle.meaning.proofs.Left.{left-pair}
@@ -28,14 +26,12 @@ use Rattle.meaning.proofs.Records.{struck-last, struck-keeps, struck-new}
 use Rattle.meaning.proofs.Solver.{keeps, bound}
 use Rattle.rows.specs.Marks.{is_marked, with_mark}
 use Rattle.rows.proofs.Marking.{marked-at-place, marked-elsewhere}
-use Rattle.tables.proofs.Entries.{inside}
 use Rattle.ranks.specs.View.{n_of, m_of, wishes_of, ranking_of, market_of, Once, FullTables}
 use Rattle.reasons.specs.Rows.{marked_at, RowsHold, standing_of, OrderRows}
 use Rattle.reasons.specs.Reasons.{choice_in}
 use Rattle.reasons.proofs.Choosing.{choice-same}
 use Rattle.strikes.specs.Cells.{strikes_in, cells_with}
 use Rattle.strikes.proofs.Encoding.{count-strikes, put-length, put-more}
-use Rattle.strikes.proofs.Turns.{holds}
 use Rattle.meaning.specs.declared.Reason.{Reason}
 use Rattle.meaning.specs.declared.Strike.{Strike}
 

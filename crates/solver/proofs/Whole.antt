@@ -16,20 +16,20 @@ use Rattle.solver.proofs.Lawful.{lawful-tables, listed-tables, nothing-mutual, p
 use Rattle.solver.proofs.Ending.{struck-in}
 use Rattle.meaning.specs.Numbers.{In}
 use Rattle.meaning.specs.Lists.{Each, each_none}
-use Rattle.meaning.specs.Placement.{held, Order, depot, LegalOrder}
+use Rattle.meaning.specs.Placement.{held, Order, LegalOrder}
 use Rattle.meaning.specs.Full.{Full}
 use Rattle.meaning.specs.Market.{trainee_list, market, Standing, standing, Lawful, mutual?, placed}
 use Rattle.meaning.specs.Strikes.{nothing, struck, Exhausted, mutual_pairs}
 use Rattle.meaning.specs.Endings.{Outcome, placed_by, none_held, none_room, table_of, left_table, first_broken, room_from, held_or, outcome_of}
-use Rattle.meaning.specs.Solver.{sweeps_by, lowest, begun, visit, strikes_of, WholeRuling, ending_of, head_of, solve}
+use Rattle.meaning.specs.Solver.{sweeps_by, begun, visit, strikes_of, WholeRuling, ending_of, head_of, solve}
 use Rattle.meaning.proofs.Booleans.{some-own}
-use Rattle.meaning.proofs.Lists.{at, each-end}
+use Rattle.meaning.proofs.Lists.{each-end}
 use Rattle.meaning.proofs.Counting.{table-within}
 use Rattle.meaning.proofs.Full.{LegalFull, LegalOrders, lawful-market}
 use Rattle.meaning.proofs.Left.{left-table-length, left-table}
 use Rattle.meaning.proofs.Records.{record-pairs}
-use Rattle.meaning.proofs.Visits.{kept, lowest-record}
-use Rattle.meaning.proofs.Endings.{Room as RoomView, room_at, no_room, room-from, ends, exhausted-room, exhausted-placed}
+use Rattle.meaning.proofs.Visits.{lowest-record}
+use Rattle.meaning.proofs.Endings.{Room as RoomView, room_at, no_room, room-from, exhausted-room, exhausted-placed}
 use Rattle.meaning.proofs.Solver.{bound, strikes-exhausted, solved}
 use Rattle.tables.specs.Cells.{laid}
 use Rattle.stability.specs.Search.{Counts}

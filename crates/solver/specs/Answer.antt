@@ -1,9 +1,8 @@
 -- What the solver gives for lent tables (document 01, "Strikes and endings" and "Numbers given back"): the answer, the table and the record, guard by guard.
 -- Assumes nothing.
-use Rattle.std.specs.Prelude.{ℕ, Bool, true, false, List, [], length, leb}
+use Rattle.std.specs.Prelude.{ℕ, true, false, List, [], length}
 use Rattle.std.proofs.Math.Option.{Option, none, some}
 use Rattle.rulings.specs.Held.{table_after, roomy}
-use Rattle.meaning.specs.Numbers.{◌&◌}
 use Rattle.meaning.specs.Placement.{Placement}
 use Rattle.meaning.specs.Full.{Received, whole, lacking}
 use Rattle.meaning.specs.Solver.{WholeRuling, head_of, ruled}
@@ -11,7 +10,6 @@ use Rattle.meaning.specs.Answers.{SHORT_PART, NOT_RECEIVED, NOT_READ, refusal}
 use Rattle.meaning.specs.declared.Strike.{Strike}
 use Rattle.meaning.specs.declared.Ruled.{Ruled}
 use Rattle.tables.specs.Decode.{placement_of}
-use Rattle.tables.specs.Answers.{sized}
 use Rattle.strikes.specs.Cells.{strikes_in, recorded}
 
 -- all that is given back: the answer, the table as it is left, and the strikes that go into the record

@@ -6,7 +6,7 @@ use Rattle.solver.specs.Ends.{struck_in, left_by, Kept}
 use Rattle.meaning.specs.Placement.{Order}
 use Rattle.meaning.specs.Market.{standing}
 use Rattle.meaning.specs.Strikes.{nothing, struck, mutual_pairs}
-use Rattle.meaning.specs.Endings.{Outcome, placed_by, none_held, none_room, first_broken, room_from}
+use Rattle.meaning.specs.Endings.{Outcome, first_broken, room_from}
 use Rattle.meaning.specs.Solver.{sweeps_by, visit, WholeRuling, ending_of, head_of}
 use Rattle.tables.specs.Cells.{laid}
 use Rattle.rulings.specs.Held.{table_after}

@@ -16,7 +16,7 @@ use Rattle.meaning.specs.Answers.{SHORT_PART, NOT_READ, refusal}
 use Rattle.meaning.specs.declared.Receipt.{Receipt}
 use Rattle.meaning.proofs.Booleans.{true-or-false, and_left, and_right}
 use Rattle.meaning.proofs.Numbers.{order}
-use Rattle.tables.specs.Cells.{missing_cell, trainee_start, part}
+use Rattle.tables.specs.Cells.{missing_cell, trainee_start}
 use Rattle.tables.specs.Decode.{Sides, sides_of, placement_of}
 use Rattle.tables.specs.Answers.{sized, Said, refused, out_of_range, not_received, received, said_of, said_among, said_by, said_if_held, said, handed_back, receipt_of, trainee_list, trainee_receipt}
 use Rattle.tables.specs.Walk.{is_some}

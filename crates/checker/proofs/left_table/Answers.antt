@@ -1,5 +1,4 @@
 -- After k turns the front of the array is the left table of trainees 1 to k. Assumes nothing.
-use Prim.Native.Nat.{◌-◌}
 use mathlib.Core.Path.{◌≡◌, refl, ◌∙◌}
 use native.Mathlib.Omega.{arith}
 use lib.ListN.{length-set}

@@ -1,5 +1,4 @@
 -- After k turns the rows hold the first k strikes, and the answer comes from what follows. Assumes nothing.
-use Prim.Native.Nat.{◌-◌}
 use mathlib.Core.Path.{subst, ◌≡◌, ◌∙◌, sym, refl}
 use native.Mathlib.Omega.{arith}
 use Rattle.meaning.specs.Numbers.{In}

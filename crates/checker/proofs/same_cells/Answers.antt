@@ -1,5 +1,4 @@
 -- What is still to be compared is what lies behind. Assumes nothing.
-use Prim.Native.Nat.{◌-◌}
 use mathlib.Core.Path.{refl}
 use native.Mathlib.Omega.{arith}
 use Rattle.checker.proofs.Loops.{same_more, same_not, same-all}

@@ -1,5 +1,4 @@
 -- After k turns depots 1 to k have no more trainees than posts. Assumes nothing.
-use Prim.Native.Nat.{◌-◌}
 use mathlib.Core.Path.{◌≡◌}
 use native.Mathlib.Omega.{arith}
 use Rattle.ranks.specs.View.{m_of}

@@ -1,5 +1,4 @@
 -- The invariant: the first i bytes are put.
-use Prim.Native.Nat.{◌-◌}
 use native.Mathlib.Omega.{arith}
 use Rattle.fields.proofs.Puts.{word-begun, put-length, word_more, word-whole}
 use Rattle.fields.proofs.put_word.Goals as goal

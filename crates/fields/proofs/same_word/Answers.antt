@@ -1,5 +1,4 @@
 -- The invariant: the words are the same exactly if what is left of them is.
-use Prim.Native.Nat.{◌-◌}
 use mathlib.Core.Path.{sym, ◌∙◌}
 use lib.Seq.{slice, length-slice}
 use native.Mathlib.Omega.{arith}

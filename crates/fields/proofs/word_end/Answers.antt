@@ -1,5 +1,4 @@
 -- The invariant: the word of the position reached ends where the word of `at` ends.
-use Prim.Native.Nat.{◌-◌}
 use mathlib.Core.Logic.{inl, inr}
 use native.Mathlib.Omega.{arith}
 use Rattle.fields.proofs.Positions.{word-stop, word_on, word-past}

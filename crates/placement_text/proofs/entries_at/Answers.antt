@@ -1,5 +1,5 @@
 -- The invariant: what is left, read after the entries so far, is the reading of all; these stand in the cells, and the marks are theirs.
-use Prim.Native.Nat.{◌+◌, ◌-◌}
+use Prim.Native.Nat.{◌+◌}
 use mathlib.Core.Path.{subst}
 use native.Mathlib.Omega.{arith}
 use Rattle.fields.specs.Leaves.{NumberRead}

@@ -1,5 +1,5 @@
 -- The invariant: what is left, read after the pairs so far, is the reading of all lines; their cells stand behind the first.
-use Prim.Native.Nat.{◌+◌, ◌-◌, ◌*◌}
+use Prim.Native.Nat.{◌+◌, ◌*◌}
 use mathlib.Core.Path.{refl, subst}
 use native.Mathlib.Omega.{arith}
 use lib.ListN.{length-set}

@@ -1,5 +1,5 @@
 -- The invariant: what is left, read after the lists so far, is the reading of all lines; their heads and entries stand in the cells.
-use Prim.Native.Nat.{◌+◌, ◌-◌}
+use Prim.Native.Nat.{◌+◌}
 use mathlib.Core.Path.{subst}
 use native.Mathlib.Omega.{arith}
 use lib.ListN.{drop, length-set}

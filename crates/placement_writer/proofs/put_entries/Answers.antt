@@ -1,5 +1,5 @@
 -- The invariant: what is left to put is what the entries from i on are written as.
-use Prim.Native.Nat.{◌+◌, ◌-◌}
+use Prim.Native.Nat.{◌+◌}
 use mathlib.Core.Path.{refl}
 use native.Mathlib.Omega.{arith}
 use lib.ListN.{get_or, drop}

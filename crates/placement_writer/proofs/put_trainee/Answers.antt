@@ -1,5 +1,4 @@
 -- The parts of the line one after the other, each with its room.
-use Prim.Native.Nat.{◌+◌}
 use mathlib.Core.Path.{sym, ap, subst}
 use mathlib.Core.List.{[], ◌∷◌, ◌++◌}
 use native.Mathlib.Omega.{arith}

@@ -1,7 +1,6 @@
 -- While the loop runs, x is not among the entries passed, so its place is k more than on the rest.
 use Rattle.ranks.proofs.Places.{place-hit, place_none}
 use native.Mathlib.Omega.{arith}
-use Prim.Native.Nat.{◌-◌}
 use mathlib.Core.Path.{sym, ◌∙◌}
 use borrow.Author.Count.{below_more}
 use Rattle.ranks.proofs.place_on.Goals as goal

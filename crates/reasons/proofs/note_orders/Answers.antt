@@ -1,6 +1,6 @@
 -- After k orders the rows keep the first k.
 use native.Mathlib.Omega.{arith}
-use Prim.Native.Nat.{ℕ, ◌-◌}
+use Prim.Native.Nat.{ℕ}
 use mathlib.Core.Path.{refl, ◌∙◌, subst}
 use Rattle.reasons.specs.Orders.{Noted}
 use Rattle.reasons.proofs.Noting.{noted_more}

@@ -1,7 +1,7 @@
 -- The loop keeps the count and the smallest of the part passed so far.
 use lib.Dec.{leb}
 use native.Mathlib.Omega.{arith}
-use Prim.Native.Nat.{◌+◌, ◌-◌}
+use Prim.Native.Nat.{◌+◌}
 use mathlib.Core.Path.{refl, ap, ◌∙◌}
 use lib.ListN.{get_or}
 use Rattle.meaning.specs.Numbers.{bit}

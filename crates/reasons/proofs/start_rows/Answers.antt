@@ -1,6 +1,5 @@
 -- The rows of the trainees passed so far are start rows.
 use native.Mathlib.Omega.{arith}
-use Prim.Native.Nat.{◌-◌}
 use mathlib.Core.Path.{refl, ◌∙◌}
 use lib.ListN.{length-set}
 use Rattle.reasons.proofs.Starting.{started-more}

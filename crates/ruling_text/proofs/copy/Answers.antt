@@ -1,5 +1,4 @@
 -- The invariant: the first i cells are copied.
-use Prim.Native.Nat.{◌-◌}
 use mathlib.Core.Path.{◌≡◌, refl, ap, ◌∙◌}
 use lib.ListN.{take, length-set}
 use lib.Seq.{sets}

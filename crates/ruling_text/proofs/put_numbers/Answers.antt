@@ -1,5 +1,4 @@
 -- The invariant: the first i numbers are put.
-use Prim.Native.Nat.{◌-◌}
 use mathlib.Core.Path.{ap}
 use lib.ListN.{length}
 use native.Mathlib.Omega.{arith}

@@ -1,5 +1,5 @@
 -- The invariant: the lines of the first i strikes are put; a strike's four cells are its numbers.
-use Prim.Native.Nat.{◌+◌, ◌-◌}
+use Prim.Native.Nat.{◌+◌}
 use native.Mathlib.Omega.{arith}
 use Rattle.fields.proofs.Puts.{put_as, put-length}
 use Rattle.ruling_text.specs.Writer.{write_strike}

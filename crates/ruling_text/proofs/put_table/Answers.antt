@@ -1,5 +1,4 @@
 -- The invariant: the lines of the first i cells are put.
-use Prim.Native.Nat.{◌-◌}
 use lib.ListN.{take}
 use lib.Seq.{length-take-le}
 use native.Mathlib.Omega.{arith}

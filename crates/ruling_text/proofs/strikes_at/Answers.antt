@@ -1,5 +1,4 @@
 -- The invariant: reading from the start is reading from here, and the cells hold the strikes passed.
-use Prim.Native.Nat.{◌-◌}
 use mathlib.Core.Path.{refl, subst}
 use native.Mathlib.Omega.{arith}
 use Rattle.meaning.specs.Answers.{strike_numbers}

@@ -1,5 +1,4 @@
 -- The invariant: reading from the start is reading from here, and the table holds the cells passed.
-use Prim.Native.Nat.{◌-◌}
 use mathlib.Core.Path.{refl, subst}
 use native.Mathlib.Omega.{arith}
 use Rattle.ruling_text.specs.Reader.{cell_line}

@@ -1,6 +1,5 @@
 -- After k cells the table's front is the front of the left table.
 use native.Mathlib.Omega.{arith}
-use Prim.Native.Nat.{◌-◌}
 use Rattle.solver.proofs.Searches.{laid_none, laid_more, laid-all}
 use Rattle.solver.proofs.fill_left.Goals as goal
 

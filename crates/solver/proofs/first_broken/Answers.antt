@@ -1,6 +1,6 @@
 -- No order passed so far is a broken hold.
 use native.Mathlib.Omega.{arith}
-use Prim.Native.Nat.{ℕ, ◌-◌, ◌+◌}
+use Prim.Native.Nat.{ℕ, ◌+◌}
 use mathlib.Core.Path.{refl, sym, ap, ◌∙◌}
 use lib.ListN.{get_or}
 use Rattle.solver.proofs.Searches.{broken-hit, broken-on, broken-end}

@@ -1,7 +1,6 @@
 -- The record grows with each sweep that strikes and never past the mutual pairs, so the sweeps end where the definition's do.
 use Rattle.solver.proofs.Turns.{fuel-start, turn-less, turn_more, turn-done}
 use mathlib.Core.Path.{refl, ◌∙◌}
-use Prim.Native.Nat.{◌-◌}
 use Rattle.solver.proofs.sweep_all.Goals as goal
 
 pub loop-used-init : goal.loop-used-init

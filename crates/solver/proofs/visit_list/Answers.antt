@@ -2,7 +2,6 @@
 use Rattle.solver.proofs.Turns.{row_more, row_done}
 use native.Mathlib.Omega.{arith}
 use mathlib.Core.Path.{refl, ap, ◌∙◌}
-use Prim.Native.Nat.{◌-◌}
 use lib.ListN.{length}
 use Rattle.solver.proofs.visit_list.Goals as goal
 

@@ -1,5 +1,4 @@
 -- After each trainee the cells are the counts among those met so far, since one more is counted at one depot only.
-use Prim.Native.Nat.{◌-◌}
 use mathlib.Core.Path.{◌≡◌, refl, ◌∙◌}
 use native.Mathlib.Omega.{arith}
 use lib.Dec.{eqb}

@@ -1,5 +1,4 @@
 -- What is left of the cells decides, and one that can't have been read ends it.
-use Prim.Native.Nat.{◌-◌}
 use mathlib.Core.Path.{refl}
 use native.Mathlib.Omega.{arith}
 use Rattle.stability.proofs.Guards.{depot-wrong, depot-right, depots-end}

@@ -1,5 +1,4 @@
 -- After each trainee the cells are the worst ranks among those met so far, since only one depot's can have grown.
-use Prim.Native.Nat.{◌-◌}
 use mathlib.Core.Path.{◌≡◌, refl, ap, ◌∙◌}
 use native.Mathlib.Omega.{arith}
 use lib.ListN.{length, length-set, get_or}

@@ -14,7 +14,7 @@ loop-k-preserved c =
     let inside : k < length c.args.log.now = omega arith in (
       omega arith,
       c.store.ensures
-      ∙ ap₂ (λ log s. set log k s) c.loop-k.invariant.1 c.strike_in-s.ensures
-      ∙ fill_more c.args.cells.now c.args.log.now k inside
-      ∙ ap (filled c.args.cells.now c.args.log.now) (sym (add-one k)),
+          ∙ ap₂ (λ log s. set log k s) c.loop-k.invariant.1 c.strike_in-s.ensures
+          ∙ fill_more c.args.cells.now c.args.log.now k inside
+          ∙ ap (filled c.args.cells.now c.args.log.now) (sym (add-one k)),
     )

@@ -15,7 +15,7 @@ loop-k-preserved c =
     let room : 4 * k + 4 ≤ length c.args.cells.now = omega arith in (
       omega arith,
       c.put_strike.ensures
-      ∙ ap₂ (λ cells s. cells_with cells k s) c.loop-k.invariant.1 c.strike_at-s.ensures
-      ∙ flat-more c.args.log.now c.args.cells.now k inside room
-      ∙ ap (flat c.args.log.now c.args.cells.now) (sym (add-one k)),
+          ∙ ap₂ (λ cells s. cells_with cells k s) c.loop-k.invariant.1 c.strike_at-s.ensures
+          ∙ flat-more c.args.log.now c.args.cells.now k inside room
+          ∙ ap (flat c.args.log.now c.args.cells.now) (sym (add-one k)),
     )

@@ -1,5 +1,5 @@
 -- The invariant: the first k strikes of the cells are laid over the others as those were. Assumes nothing.
-use Prim.Native.Nat.{◌+◌, ◌-◌}
+use Prim.Native.Nat.{◌+◌}
 use mathlib.Core.Path.{◌≡◌, refl, ap, ◌∙◌}
 use native.Mathlib.Omega.{arith}
 use lib.ListN.{length}

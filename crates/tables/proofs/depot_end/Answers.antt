@@ -2,7 +2,6 @@
 use mathlib.Core.Path.{sym, ap, ◌∙◌, subst}
 use native.Mathlib.Omega.{arith}
 use lib.ListN.{length, drop}
-use borrow.Author.Tests.{not-true, not-false}
 use Rattle.meaning.specs.Placement.{size}
 use Rattle.tables.specs.Decode.{list_from, posts_from}
 use Rattle.tables.specs.Walk.{is_some, end_of, Ends}

@@ -5,7 +5,6 @@ use mathlib.Core.List.{[]}
 use native.Mathlib.Omega.{arith}
 use native.Mathlib.Nat.{sub-zero}
 use lib.ListN.{drop}
-use borrow.Author.Tests.{not-true, not-false}
 use Rattle.meaning.specs.Lists.{weigh}
 use Rattle.tables.specs.Cells.{weightless, order_start}
 use Rattle.tables.specs.Decode.{order_from, orders_from}

@@ -1,8 +1,6 @@
 -- Going back from the last entry, the marks are the entries behind, so each new one tells whether the list is good from there on.
-use Prim.Native.Nat.{◌-◌}
 use mathlib.Core.Path.{refl}
 use native.Mathlib.Omega.{arith}
-use borrow.Author.Tests.{not-true, not-false}
 use Rattle.tables.proofs.Entries.{scan-start, scan-done, scan-bad, scan-in, scan-on}
 use Rattle.tables.proofs.good_entries.Goals as goal
 

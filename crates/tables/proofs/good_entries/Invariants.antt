@@ -1,5 +1,4 @@
 -- Going back from the last entry, the marks are the entries behind, so each new one tells whether the list is good from there on.
-use Prim.Native.Nat.{◌-◌}
 use Rattle.tables.proofs.Entries.{Scanned}
 use Rattle.tables.proofs.good_entries.Given as goal
 

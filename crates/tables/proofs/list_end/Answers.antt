@@ -1,7 +1,6 @@
 -- The five ways through the code are the five ways through the decoder's choice.
 use mathlib.Core.Path.{sym, ◌∙◌}
 use native.Mathlib.Omega.{arith}
-use borrow.Author.Tests.{not-true, not-false}
 use Rattle.tables.proofs.Walk.{list-not-received, list-long, list-past, list-bad, list-fits}
 use Rattle.tables.proofs.list_end.Goals as goal
 

@@ -1,7 +1,6 @@
 -- The kind decides first, then the two ranges.
 use mathlib.Core.Path.{sym, ap, ◌∙◌}
 use native.Mathlib.Omega.{arith}
-use borrow.Author.Tests.{not-true, not-false}
 use Rattle.tables.specs.Decode.{within}
 use Rattle.tables.proofs.Walk.{order-unkind, order-first, order-second}
 use Rattle.tables.proofs.order_ok.Goals as goal

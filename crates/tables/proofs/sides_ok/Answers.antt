@@ -1,7 +1,6 @@
 -- The first three cells are the decoder's first choice; the rest is the lists'.
 use mathlib.Core.Path.{sym, ◌∙◌}
 use native.Mathlib.Omega.{arith}
-use borrow.Author.Tests.{not-true, not-false}
 use Rattle.tables.proofs.Round.{limits-back}
 use Rattle.tables.proofs.Walk.{sides-limits, sides-lists}
 use Rattle.tables.proofs.sides_ok.Goals as goal

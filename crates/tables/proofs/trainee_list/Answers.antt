@@ -1,7 +1,6 @@
 -- A receipt that says received comes with the part's place in the entries; any other says that the empty part is handed back.
 use Prim.Native.Nat.{◌+◌, ◌≤◌, ◌<◌}
-use mathlib.Core.Path.{◌≡◌, sym, ap, ◌∙◌, subst}
-use native.Mathlib.Omega.{arith}
+use mathlib.Core.Path.{sym, ap, ◌∙◌, subst}
 use lib.ListN.{length, get_or}
 use Rattle.tables.specs.Cells.{part}
 use Rattle.tables.proofs.Receipts.{received-part, other-part}

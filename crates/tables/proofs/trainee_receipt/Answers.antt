@@ -1,6 +1,5 @@
 -- The refusals are tried in the definition's order; past them the sides decide.
 use mathlib.Core.Path.{sym, ap, ◌∙◌}
-use borrow.Author.Tests.{not-true, not-false}
 use Rattle.tables.specs.Answers.{receipt_of}
 use Rattle.tables.proofs.Seen.{sides-seen}
 use Rattle.tables.proofs.Receipts.{sizes, receipt-short, receipt-unread, held-sides}

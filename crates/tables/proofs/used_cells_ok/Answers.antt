@@ -1,6 +1,5 @@
 -- The sides decide first; the orders are then read with the counts that the sides have.
 use mathlib.Core.Path.{sym, ap₂, ◌∙◌}
-use borrow.Author.Tests.{not-true, not-false}
 use Rattle.tables.specs.Decode.{few_orders_of}
 use Rattle.tables.specs.Walk.{is_some}
 use Rattle.tables.proofs.Walk.{tables-sides, tables-orders}
