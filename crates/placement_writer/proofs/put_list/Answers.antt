@@ -50,7 +50,7 @@ pub put_entries-requires : goal.put_entries-requires
 put_entries-requires c =
     let a = c.args in
     let h = a.heads.now in
-    let e = ap length (list-given h a.entries.now a.cells c.requires.0 (λ m. c.if-v-eq-NOT_RECEIVED.false (c.length_of-v.ensures ∙ m))) in
+    let f = ap length (list-given h a.entries.now a.cells c.requires.0 (λ m. c.if-v-eq-NOT_RECEIVED.false (c.length_of-v.ensures ∙ m))) in
     let R : a.at + length (write_number (get_or h (a.cells + 1) 0) ++ write_entries (part h a.entries.now a.cells)) ≤ length a.out.now = omega arith in
     let P = put_as (ap write_number c.length_of-v.ensures) c.put_number-p.ensures in
     let r = room_next (write_entries (part h a.entries.now a.cells)) P R in

@@ -21,8 +21,8 @@ list_at-requires c =
 pub returns-in-Received : goal.returns-in-Received
 returns-in-Received c =
     let a = c.args in
-    let p = received-part a.heads.now a.entries.now a.orders.now a.i (sym c.trainee_receipt-receipt.ensures ∙ c.in-Received.is) in
-    c.list_at.ensures ∙ ap (part a.heads.now a.entries.now) c.trainee_at.ensures ∙ p.seen.is
+    let r = received-part a.heads.now a.entries.now a.orders.now a.i (sym c.trainee_receipt-receipt.ensures ∙ c.in-Received.is) in
+    c.list_at.ensures ∙ ap (part a.heads.now a.entries.now) c.trainee_at.ensures ∙ r.seen.is
 
 pub returns-in_default : goal.returns-in_default
 returns-in_default c =
