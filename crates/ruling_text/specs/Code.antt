@@ -19,7 +19,7 @@ use Rattle.ruling_text.specs.declared.Two.TheVariants.{Are as AreTwo, Not as Not
 use Rattle.ruling_text.specs.declared.Four.{Four}
 use Rattle.ruling_text.specs.declared.Four.TheVariants.{Are as AreFour, Not as NotFour}
 use Rattle.ruling_text.specs.declared.None.{None}
-use Rattle.ruling_text.specs.declared.None.TheVariants.{Is as IsNone, Not as NotNone}
+use Rattle.ruling_text.specs.declared.None.TheVariants.{Is as NoneIs, Not as NoneNot}
 use Rattle.ruling_text.specs.declared.Conclusion.{Conclusion}
 use Rattle.ruling_text.specs.declared.Conclusion.TheVariants.{To as ConcludedTo, Refused as ConcludedRefused}
 use Rattle.ruling_text.specs.declared.Last.{Last}
@@ -89,8 +89,8 @@ pub record Concluded (s : List ℕ) (step : Step Outcome) (t t' : List ℕ) (end
 
 -- where there is no table, no cell changes
 abbrev pub NoneRead : List ℕ → Step Outcome → None → Type 0
-NoneRead s step (IsNone ending next) = (t : List ℕ) → Concluded s step t t ending next
-NoneRead s step (NotNone e k) = step ≡ refusal e 0 k
+NoneRead s step (NoneIs ending next) = (t : List ℕ) → Concluded s step t t ending next
+NoneRead s step (NoneNot e k) = step ≡ refusal e 0 k
 
 abbrev pub ConclusionRead : List ℕ → Step Outcome → List ℕ → List ℕ → Conclusion → Type 0
 ConclusionRead s step t t' (ConcludedTo ending next) = Concluded s step t t' ending next
