@@ -1,7 +1,7 @@
 /* Reads a placement on standard input, solves it and prints each trainee's depot.
  *
- *     (cd crates/exports && rt lib)
- *     cc -o example crates/exports/example.c crates/exports/out/libexports.a
+ *     bash tools/archive
+ *     cc -o example crates/exports/example.c target/staticlib/libexports.a
  *     ./example < samples/whole-case.placement
  */
 #include <stdio.h>

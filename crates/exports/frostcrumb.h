@@ -1,4 +1,4 @@
-/* Frostcrumb's functions for C. Link with crates/exports/out/libexports.a, which `rt lib` in crates/exports makes (x86-64 Linux).
+/* Frostcrumb's functions for C. Link with target/staticlib/libexports.a, which tools/archive makes (x86-64 Linux).
  *
  * A slice is a pointer and then its number of elements. What is lent to be changed must overlap nothing else that the call is lent,
  * and a pointer is never null, even with length 0. Nothing else is asked: any bytes, any cells and any lengths are answered.

@@ -148,8 +148,7 @@ fn lay(answer: &mut [u64], x: Numbers) -> usize
 }
 
 // Reads a placement text into the lent tables.
-#[unsafe(no_mangle)]
-pub extern "C" fn frostcrumb_read_placement(
+pub fn frostcrumb_read_placement(
     text: &[u8],
     heads: &mut [u16],
     entries: &mut [u16],
@@ -166,8 +165,7 @@ pub extern "C" fn frostcrumb_read_placement(
 }
 
 // Writes the text of the placement that the lent tables hold over the front of the output.
-#[unsafe(no_mangle)]
-pub extern "C" fn frostcrumb_write_placement(
+pub fn frostcrumb_write_placement(
     heads: &[u16],
     entries: &[u16],
     orders: &[u16],
@@ -184,8 +182,7 @@ pub extern "C" fn frostcrumb_write_placement(
 }
 
 // Whether a trainee's list was received.
-#[unsafe(no_mangle)]
-pub extern "C" fn frostcrumb_trainee_receipt(
+pub fn frostcrumb_trainee_receipt(
     heads: &[u16],
     entries: &[u16],
     orders: &[u16],
@@ -202,8 +199,7 @@ pub extern "C" fn frostcrumb_trainee_receipt(
 }
 
 // Tests the stability of a table of n trainees.
-#[unsafe(no_mangle)]
-pub extern "C" fn frostcrumb_test_table(
+pub fn frostcrumb_test_table(
     heads: &[u16],
     entries: &[u16],
     orders: &[u16],
@@ -221,8 +217,7 @@ pub extern "C" fn frostcrumb_test_table(
 }
 
 // Solves a placement: the ruling's table over the front of the table, and its strikes over the front of the cells, four to a strike.
-#[unsafe(no_mangle)]
-pub extern "C" fn frostcrumb_solve(
+pub fn frostcrumb_solve(
     heads: &[u16],
     entries: &[u16],
     orders: &[u16],
