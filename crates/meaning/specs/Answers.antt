@@ -5,6 +5,7 @@ use Rattle.meaning.specs.declared.Reason.{Reason}
 use Rattle.meaning.specs.declared.Strike.{Strike}
 use Rattle.meaning.specs.declared.Ending.{Ending}
 use Rattle.meaning.specs.declared.Ruling.{Ruling}
+use Rattle.meaning.specs.declared.Fault.{Fault}
 use Rattle.meaning.specs.declared.Refusal.{Refusal}
 use Rattle.meaning.specs.declared.Reading.{Reading}
 use Rattle.meaning.specs.declared.Writing.{Writing}
@@ -46,6 +47,16 @@ NOT_RECEIVED = 7
 -- tables that no reader could have filled, or another n
 abbrev pub NOT_READ : ℕ
 NOT_READ = 8
+
+abbrev pub fault_number : Fault → ℕ
+fault_number Fault.ShortPart = SHORT_PART
+fault_number Fault.LongText = LONG_TEXT
+fault_number Fault.WrongForm = WRONG_FORM
+fault_number Fault.OutOfRange = OUT_OF_RANGE
+fault_number Fault.NamedTwice = NAMED_TWICE
+fault_number Fault.TooMany = TOO_MANY
+fault_number Fault.NotReceived = NOT_RECEIVED
+fault_number Fault.NotRead = NOT_READ
 
 abbrev pub refusal : ℕ → ℕ → Refusal
 refusal number line = record { number = number; line = line }

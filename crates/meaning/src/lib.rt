@@ -34,6 +34,19 @@ pub struct Ruling {
     pub ending: Ending,
 }
 
+// Why a file or a table is refused, by the numbers that document 01 gives back.
+#[derive(Clone, Copy, PartialEq, Eq)]
+pub enum Fault {
+    ShortPart = 1,
+    LongText,
+    WrongForm,
+    OutOfRange,
+    NamedTwice,
+    TooMany,
+    NotReceived,
+    NotRead,
+}
+
 // A number given back, and the line that it gives.
 #[derive(Clone, Copy)]
 pub struct Refusal {
