@@ -1,20 +1,21 @@
 -- Each case has numbers of its own: the value can be read back from its numbers, so two values with the same numbers are one.
 -- Assumes nothing.
-use Prim.Native.Nat.{ℕ, zero, suc}
+use Prim.Native.Nat.{ℕ, zero, suc, ◌≤◌, ◌<◌}
+use native.Mathlib.Omega.{arith}
 use mathlib.Core.Path.{◌≡◌, refl, sym, ap, ap₂, ◌∙◌}
 use mathlib.Core.List.{List}
 use lib.ListN.{get_or}
-use Rattle.meaning.specs.Answers.{refusal, reason_number, reason_witness, strike_numbers, ending_numbers, ruling_numbers, refusal_numbers, reading_numbers, writing_numbers, receipt_numbers, tested_numbers, ruled_numbers, checked_numbers}
+use Rattle.meaning.specs.Answers.{fault_number, fault_of, refusal, reason_of, reason_number, reason_witness, strike_numbers, ending_numbers, ruling_numbers, refusal_numbers, reading_numbers, writing_numbers, receipt_numbers, tested_numbers, ruled_numbers, checked_numbers}
 use Rattle.meaning.specs.declared.Reason.{Reason}
 use Rattle.meaning.specs.declared.Strike.{Strike}
 use Rattle.meaning.specs.declared.Ending.{Ending}
 use Rattle.meaning.specs.declared.Ruling.{Ruling}
-use Rattle.meaning.specs.declared.Reading.{Reading}
-use Rattle.meaning.specs.declared.Writing.{Writing}
 use Rattle.meaning.specs.declared.Receipt.{Receipt}
 use Rattle.meaning.specs.declared.Tested.{Tested}
-use Rattle.meaning.specs.declared.Ruled.{Ruled}
-use Rattle.meaning.specs.declared.Checked.{Checked}
+use Rattle.meaning.specs.declared.Rejection.{Rejection}
+use Rattle.meaning.specs.declared.Fault.{Fault}
+use Rattle.meaning.specs.declared.Refusal.{Refusal}
+use Rattle.std.specs.Prelude.{Result, Ok, Err}
 
 module _ {A : Type 0} (numbers : A → List ℕ) (back : ℕ → ℕ → ℕ → A)
     (again : (a : A) → back (get_or (numbers a) 0 0) (get_or (numbers a) 1 0) (get_or (numbers a) 2 0) ≡ a) where
@@ -23,22 +24,29 @@ module _ {A : Type 0} (numbers : A → List ℕ) (back : ℕ → ℕ → ℕ →
 
 -- ---- reasons and strikes
 
-pub reason_back : ℕ → ℕ → Reason
-reason_back zero w = Reason.Barred
-reason_back (suc zero) w = Reason.Barred
-reason_back (suc (suc zero)) w = Reason.HeldElsewhere w
-reason_back (suc (suc (suc zero))) w = Reason.PostsGone
-reason_back (suc (suc (suc (suc k)))) w = Reason.Passed w
-
-pub reason-again : (r : Reason) → reason_back (reason_number r) (reason_witness r) ≡ r
-unfolding reason_back reason_number reason_witness
+pub reason-again : (r : Reason) → reason_of (reason_number r) (reason_witness r) ≡ r
+unfolding reason_of reason_number reason_witness
 reason-again Reason.Barred = refl
 reason-again (Reason.HeldElsewhere j) = refl
 reason-again Reason.PostsGone = refl
 reason-again (Reason.Passed k) = refl
 
+pub reason-low : (n w : ℕ) → n < 2 → reason_of n w ≡ Reason.Barred
+unfolding reason_of
+reason-low zero w h = refl
+reason-low (suc zero) w h = refl
+reason-low (suc (suc n)) w h = absurd (omega arith)
+
+pub reason-high : (n w : ℕ) → 4 ≤ n → reason_of n w ≡ Reason.Passed w
+unfolding reason_of
+reason-high zero w h = absurd (omega arith)
+reason-high (suc zero) w h = absurd (omega arith)
+reason-high (suc (suc zero)) w h = absurd (omega arith)
+reason-high (suc (suc (suc zero))) w h = absurd (omega arith)
+reason-high (suc (suc (suc (suc n)))) w h = refl
+
 pub reason-own : (r s : Reason) → reason_number r ≡ reason_number s → reason_witness r ≡ reason_witness s → r ≡ s
-reason-own r s n w = sym (reason-again r) ∙ ap₂ reason_back n w ∙ reason-again s
+reason-own r s n w = sym (reason-again r) ∙ ap₂ reason_of n w ∙ reason-again s
 
 pub strike-own : (x y : Strike) → strike_numbers x ≡ strike_numbers y → x ≡ y
 unfolding strike_numbers
@@ -72,88 +80,123 @@ ruling-own a b e =
     let s : a.strikes ≡ b.strikes = cc in
     λ t. record { trainees = n t; strikes = s t; ending = d t }
 
+-- ---- numbers given back and refusals
+
+pub fault-again : (f : Fault) → fault_of (fault_number f) ≡ f
+fault-again Fault.ShortPart = refl
+fault-again Fault.LongText = refl
+fault-again Fault.WrongForm = refl
+fault-again Fault.OutOfRange = refl
+fault-again Fault.NamedTwice = refl
+fault-again Fault.TooMany = refl
+fault-again Fault.NotReceived = refl
+fault-again Fault.NotRead = refl
+
+-- the numbers 1 to 8 are the faults'
+pub number-again : (k : ℕ) → 1 ≤ k → k ≤ 8 → fault_number (fault_of k) ≡ k
+number-again zero lo hi = absurd (omega arith)
+number-again (suc zero) lo hi = refl
+number-again (suc (suc zero)) lo hi = refl
+number-again (suc (suc (suc zero))) lo hi = refl
+number-again (suc (suc (suc (suc zero)))) lo hi = refl
+number-again (suc (suc (suc (suc (suc zero))))) lo hi = refl
+number-again (suc (suc (suc (suc (suc (suc zero)))))) lo hi = refl
+number-again (suc (suc (suc (suc (suc (suc (suc zero))))))) lo hi = refl
+number-again (suc (suc (suc (suc (suc (suc (suc (suc zero)))))))) lo hi = refl
+number-again (suc (suc (suc (suc (suc (suc (suc (suc (suc k))))))))) lo hi = absurd (omega arith)
+
+pub refusal-again : (r : Refusal) → refusal (fault_number r.fault) r.line ≡ r
+refusal-again r = ap (λ f. record { fault = f; line = r.line }) (fault-again r.fault)
+
 -- ---- answers
 
-reading_back : ℕ → ℕ → ℕ → Reading
-reading_back zero number line = Reading.Taken
-reading_back (suc k) number line = Reading.Refused (refusal number line)
+reading_back : ℕ → ℕ → ℕ → Result (Unit {0}) Refusal
+reading_back zero number line = Ok tt
+reading_back (suc k) number line = Err (refusal number line)
 
-pub reading-own : (a b : Reading) → reading_numbers a ≡ reading_numbers b → a ≡ b
+pub reading-own : (a b : Result (Unit {0}) Refusal) → reading_numbers a ≡ reading_numbers b → a ≡ b
 unfolding reading_numbers reading_back refusal_numbers
 reading-own = own reading_numbers reading_back again
   where
-    again : (a : Reading) → reading_back (get_or (reading_numbers a) 0 0) (get_or (reading_numbers a) 1 0) (get_or (reading_numbers a) 2 0) ≡ a
-    again Reading.Taken = refl
-    again (Reading.Refused r) = refl
+    again : (a : Result (Unit {0}) Refusal) → reading_back (get_or (reading_numbers a) 0 0) (get_or (reading_numbers a) 1 0) (get_or (reading_numbers a) 2 0) ≡ a
+    again (Ok _) = refl
+    again (Err r) = ap Err (refusal-again r)
 
-writing_back : ℕ → ℕ → ℕ → Writing
-writing_back zero k line = Writing.Written k
-writing_back (suc _) number line = Writing.Refused (refusal number line)
+writing_back : ℕ → ℕ → ℕ → Result ℕ Refusal
+writing_back zero k line = Ok k
+writing_back (suc _) number line = Err (refusal number line)
 
-pub writing-own : (a b : Writing) → writing_numbers a ≡ writing_numbers b → a ≡ b
+pub writing-own : (a b : Result ℕ Refusal) → writing_numbers a ≡ writing_numbers b → a ≡ b
 unfolding writing_numbers writing_back refusal_numbers
 writing-own = own writing_numbers writing_back again
   where
-    again : (a : Writing) → writing_back (get_or (writing_numbers a) 0 0) (get_or (writing_numbers a) 1 0) (get_or (writing_numbers a) 2 0) ≡ a
-    again (Writing.Written k) = refl
-    again (Writing.Refused r) = refl
+    again : (a : Result ℕ Refusal) → writing_back (get_or (writing_numbers a) 0 0) (get_or (writing_numbers a) 1 0) (get_or (writing_numbers a) 2 0) ≡ a
+    again (Ok k) = refl
+    again (Err r) = ap Err (refusal-again r)
 
-receipt_back : ℕ → ℕ → ℕ → Receipt
-receipt_back zero number line = Receipt.Received
-receipt_back (suc zero) number line = Receipt.NotReceived
-receipt_back (suc (suc zero)) number line = Receipt.OutOfRange
-receipt_back (suc (suc (suc k))) number line = Receipt.Refused (refusal number line)
+receipt_back : ℕ → ℕ → ℕ → Result Receipt Refusal
+receipt_back zero number line = Ok Receipt.Received
+receipt_back (suc zero) number line = Ok Receipt.NotReceived
+receipt_back (suc (suc zero)) number line = Ok Receipt.OutOfRange
+receipt_back (suc (suc (suc k))) number line = Err (refusal number line)
 
-pub receipt-own : (a b : Receipt) → receipt_numbers a ≡ receipt_numbers b → a ≡ b
+pub receipt-own : (a b : Result Receipt Refusal) → receipt_numbers a ≡ receipt_numbers b → a ≡ b
 unfolding receipt_numbers receipt_back refusal_numbers
 receipt-own = own receipt_numbers receipt_back again
   where
-    again : (a : Receipt) → receipt_back (get_or (receipt_numbers a) 0 0) (get_or (receipt_numbers a) 1 0) (get_or (receipt_numbers a) 2 0) ≡ a
-    again Receipt.Received = refl
-    again Receipt.NotReceived = refl
-    again Receipt.OutOfRange = refl
-    again (Receipt.Refused r) = refl
+    again : (a : Result Receipt Refusal) → receipt_back (get_or (receipt_numbers a) 0 0) (get_or (receipt_numbers a) 1 0) (get_or (receipt_numbers a) 2 0) ≡ a
+    again (Ok Receipt.Received) = refl
+    again (Ok Receipt.NotReceived) = refl
+    again (Ok Receipt.OutOfRange) = refl
+    again (Err r) = ap Err (refusal-again r)
 
-tested_back : ℕ → ℕ → ℕ → Tested
-tested_back zero i j = Tested.Stable
-tested_back (suc zero) i j = Tested.NotMutual i
-tested_back (suc (suc zero)) j _ = Tested.OverPosts j
-tested_back (suc (suc (suc zero))) i j = Tested.Blocking i j
-tested_back (suc (suc (suc (suc k)))) number line = Tested.Refused (refusal number line)
+tested_back : ℕ → ℕ → ℕ → Result Tested Refusal
+tested_back zero i j = Ok Tested.Stable
+tested_back (suc zero) i j = Ok (Tested.NotMutual i)
+tested_back (suc (suc zero)) j _ = Ok (Tested.OverPosts j)
+tested_back (suc (suc (suc zero))) i j = Ok (Tested.Blocking i j)
+tested_back (suc (suc (suc (suc k)))) number line = Err (refusal number line)
 
-pub tested-own : (a b : Tested) → tested_numbers a ≡ tested_numbers b → a ≡ b
+pub tested-own : (a b : Result Tested Refusal) → tested_numbers a ≡ tested_numbers b → a ≡ b
 unfolding tested_numbers tested_back refusal_numbers
 tested-own = own tested_numbers tested_back again
   where
-    again : (a : Tested) → tested_back (get_or (tested_numbers a) 0 0) (get_or (tested_numbers a) 1 0) (get_or (tested_numbers a) 2 0) ≡ a
-    again Tested.Stable = refl
-    again (Tested.NotMutual i) = refl
-    again (Tested.OverPosts j) = refl
-    again (Tested.Blocking i j) = refl
-    again (Tested.Refused r) = refl
+    again : (a : Result Tested Refusal) → tested_back (get_or (tested_numbers a) 0 0) (get_or (tested_numbers a) 1 0) (get_or (tested_numbers a) 2 0) ≡ a
+    again (Ok Tested.Stable) = refl
+    again (Ok (Tested.NotMutual i)) = refl
+    again (Ok (Tested.OverPosts j)) = refl
+    again (Ok (Tested.Blocking i j)) = refl
+    again (Err r) = ap Err (refusal-again r)
 
-pub ruled-own : (a b : Ruled) → ruled_numbers a ≡ ruled_numbers b → a ≡ b
-unfolding ruled_numbers refusal_numbers
-ruled-own (Ruled.Ruling a) (Ruled.Ruling b) e =
-    let d : ruling_numbers a ≡ ruling_numbers b = cc in
-    ap Ruled.Ruling (ruling-own a b d)
-ruled-own (Ruled.Ruling a) (Ruled.Refused b) e = cc
-ruled-own (Ruled.Refused a) (Ruled.Ruling b) e = cc
-ruled-own (Ruled.Refused a) (Ruled.Refused b) e =
-    let n : a.number ≡ b.number = cc in
+pub refusal-own : (a b : Refusal) → refusal_numbers a ≡ refusal_numbers b → a ≡ b
+unfolding refusal_numbers
+refusal-own a b e =
+    let n : fault_number a.fault ≡ fault_number b.fault = cc in
+    let f : a.fault ≡ b.fault = sym (fault-again a.fault) ∙ ap fault_of n ∙ fault-again b.fault in
     let l : a.line ≡ b.line = cc in
-    λ t. Ruled.Refused (record { number = n t; line = l t })
+    λ t. record { fault = f t; line = l t }
 
-checked_back : ℕ → ℕ → ℕ → Checked
-checked_back zero k line = Checked.Accepted
-checked_back (suc zero) k line = Checked.NotAllowed k
-checked_back (suc (suc _)) number line = Checked.Refused (refusal number line)
+pub ruled-own : (a b : Result Ruling Refusal) → ruled_numbers a ≡ ruled_numbers b → a ≡ b
+unfolding ruled_numbers
+ruled-own (Ok a) (Ok b) e =
+    let d : ruling_numbers a ≡ ruling_numbers b = cc in
+    ap Ok (ruling-own a b d)
+ruled-own (Ok a) (Err b) e = cc
+ruled-own (Err a) (Ok b) e = cc
+ruled-own (Err a) (Err b) e =
+    let d : refusal_numbers a ≡ refusal_numbers b = cc in
+    ap Err (refusal-own a b d)
 
-pub checked-own : (a b : Checked) → checked_numbers a ≡ checked_numbers b → a ≡ b
+checked_back : ℕ → ℕ → ℕ → Result (Unit {0}) Rejection
+checked_back zero k line = Ok tt
+checked_back (suc zero) k line = Err (Rejection.NotAllowed k)
+checked_back (suc (suc _)) number line = Err (Rejection.Refused (refusal number line))
+
+pub checked-own : (a b : Result (Unit {0}) Rejection) → checked_numbers a ≡ checked_numbers b → a ≡ b
 unfolding checked_numbers checked_back refusal_numbers
 checked-own = own checked_numbers checked_back again
   where
-    again : (a : Checked) → checked_back (get_or (checked_numbers a) 0 0) (get_or (checked_numbers a) 1 0) (get_or (checked_numbers a) 2 0) ≡ a
-    again Checked.Accepted = refl
-    again (Checked.NotAllowed k) = refl
-    again (Checked.Refused r) = refl
+    again : (a : Result (Unit {0}) Rejection) → checked_back (get_or (checked_numbers a) 0 0) (get_or (checked_numbers a) 1 0) (get_or (checked_numbers a) 2 0) ≡ a
+    again (Ok _) = refl
+    again (Err (Rejection.NotAllowed k)) = refl
+    again (Err (Rejection.Refused r)) = ap (λ x. Err (Rejection.Refused x)) (refusal-again r)

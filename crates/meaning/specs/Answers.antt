@@ -1,18 +1,15 @@
 -- The paper's numbers and values for each case of a declared type (document 01, "The two texts", "Strikes and endings", "Numbers given back").
 -- Assumes nothing.
-use Rattle.std.specs.Prelude.{ℕ, List, [], ◌∷◌}
+use Rattle.std.specs.Prelude.{ℕ, zero, suc, List, [], ◌∷◌, get_or, Result, Ok, Err}
 use Rattle.meaning.specs.declared.Reason.{Reason}
 use Rattle.meaning.specs.declared.Strike.{Strike}
 use Rattle.meaning.specs.declared.Ending.{Ending}
 use Rattle.meaning.specs.declared.Ruling.{Ruling}
 use Rattle.meaning.specs.declared.Fault.{Fault}
 use Rattle.meaning.specs.declared.Refusal.{Refusal}
-use Rattle.meaning.specs.declared.Reading.{Reading}
-use Rattle.meaning.specs.declared.Writing.{Writing}
 use Rattle.meaning.specs.declared.Receipt.{Receipt}
 use Rattle.meaning.specs.declared.Tested.{Tested}
-use Rattle.meaning.specs.declared.Ruled.{Ruled}
-use Rattle.meaning.specs.declared.Checked.{Checked}
+use Rattle.meaning.specs.declared.Rejection.{Rejection}
 
 -- ---- the numbers given back
 
@@ -58,8 +55,20 @@ fault_number Fault.TooMany = TOO_MANY
 fault_number Fault.NotReceived = NOT_RECEIVED
 fault_number Fault.NotRead = NOT_READ
 
+-- the fault of a number; only 1 to 8 are given back
+abbrev pub fault_of : ℕ → Fault
+fault_of zero = Fault.NotRead
+fault_of (suc zero) = Fault.ShortPart
+fault_of (suc (suc zero)) = Fault.LongText
+fault_of (suc (suc (suc zero))) = Fault.WrongForm
+fault_of (suc (suc (suc (suc zero)))) = Fault.OutOfRange
+fault_of (suc (suc (suc (suc (suc zero))))) = Fault.NamedTwice
+fault_of (suc (suc (suc (suc (suc (suc zero)))))) = Fault.TooMany
+fault_of (suc (suc (suc (suc (suc (suc (suc zero))))))) = Fault.NotReceived
+fault_of (suc (suc (suc (suc (suc (suc (suc (suc k)))))))) = Fault.NotRead
+
 abbrev pub refusal : ℕ → ℕ → Refusal
-refusal number line = record { number = number; line = line }
+refusal number line = record { fault = fault_of number; line = line }
 
 -- ---- reasons: 1 to 4, and the witness, 0 where there is none
 
@@ -75,9 +84,25 @@ reason_witness (Reason.HeldElsewhere j) = j
 reason_witness Reason.PostsGone = 0
 reason_witness (Reason.Passed k) = k
 
+-- the reason of a number, 1 to 4, and a witness; no other number is a strike's
+unfoldable pub reason_of : ℕ → ℕ → Reason
+reason_of zero w = Reason.Barred
+reason_of (suc zero) w = Reason.Barred
+reason_of (suc (suc zero)) w = Reason.HeldElsewhere w
+reason_of (suc (suc (suc zero))) w = Reason.PostsGone
+reason_of (suc (suc (suc (suc n)))) w = Reason.Passed w
+
 -- trainee, depot, reason, witness
 unfoldable pub strike_numbers : Strike → List ℕ
 strike_numbers x = x.trainee ∷ x.depot ∷ reason_number x.reason ∷ reason_witness x.reason ∷ []
+
+-- the strike of these numbers
+unfoldable pub strike_of : List ℕ → Strike
+strike_of cells = record {
+  trainee = get_or cells 0 0;
+  depot = get_or cells 1 0;
+  reason = reason_of (get_or cells 2 0) (get_or cells 3 0);
+}
 
 -- ---- endings: the kind, 0 for placed, and the named pair
 
@@ -93,34 +118,34 @@ ruling_numbers r = r.trainees ∷ r.strikes ∷ ending_numbers r.ending
 -- ---- answers: a number for each case (the first is 0, refused is the last), then its values
 
 unfoldable pub refusal_numbers : Refusal → List ℕ
-refusal_numbers r = r.number ∷ r.line ∷ []
+refusal_numbers r = fault_number r.fault ∷ r.line ∷ []
 
-unfoldable pub reading_numbers : Reading → List ℕ
-reading_numbers Reading.Taken = 0 ∷ []
-reading_numbers (Reading.Refused r) = 1 ∷ refusal_numbers r
+unfoldable pub reading_numbers : Result (Unit {0}) Refusal → List ℕ
+reading_numbers (Ok _) = 0 ∷ []
+reading_numbers (Err r) = 1 ∷ refusal_numbers r
 
-unfoldable pub writing_numbers : Writing → List ℕ
-writing_numbers (Writing.Written k) = 0 ∷ k ∷ []
-writing_numbers (Writing.Refused r) = 1 ∷ refusal_numbers r
+unfoldable pub writing_numbers : Result ℕ Refusal → List ℕ
+writing_numbers (Ok k) = 0 ∷ k ∷ []
+writing_numbers (Err r) = 1 ∷ refusal_numbers r
 
-unfoldable pub receipt_numbers : Receipt → List ℕ
-receipt_numbers Receipt.Received = 0 ∷ []
-receipt_numbers Receipt.NotReceived = 1 ∷ []
-receipt_numbers Receipt.OutOfRange = 2 ∷ []
-receipt_numbers (Receipt.Refused r) = 3 ∷ refusal_numbers r
+unfoldable pub receipt_numbers : Result Receipt Refusal → List ℕ
+receipt_numbers (Ok Receipt.Received) = 0 ∷ []
+receipt_numbers (Ok Receipt.NotReceived) = 1 ∷ []
+receipt_numbers (Ok Receipt.OutOfRange) = 2 ∷ []
+receipt_numbers (Err r) = 3 ∷ refusal_numbers r
 
-unfoldable pub tested_numbers : Tested → List ℕ
-tested_numbers Tested.Stable = 0 ∷ []
-tested_numbers (Tested.NotMutual i) = 1 ∷ i ∷ []
-tested_numbers (Tested.OverPosts j) = 2 ∷ j ∷ []
-tested_numbers (Tested.Blocking i j) = 3 ∷ i ∷ j ∷ []
-tested_numbers (Tested.Refused r) = 4 ∷ refusal_numbers r
+unfoldable pub tested_numbers : Result Tested Refusal → List ℕ
+tested_numbers (Ok Tested.Stable) = 0 ∷ []
+tested_numbers (Ok (Tested.NotMutual i)) = 1 ∷ i ∷ []
+tested_numbers (Ok (Tested.OverPosts j)) = 2 ∷ j ∷ []
+tested_numbers (Ok (Tested.Blocking i j)) = 3 ∷ i ∷ j ∷ []
+tested_numbers (Err r) = 4 ∷ refusal_numbers r
 
-unfoldable pub ruled_numbers : Ruled → List ℕ
-ruled_numbers (Ruled.Ruling r) = 0 ∷ ruling_numbers r
-ruled_numbers (Ruled.Refused r) = 1 ∷ refusal_numbers r
+unfoldable pub ruled_numbers : Result Ruling Refusal → List ℕ
+ruled_numbers (Ok r) = 0 ∷ ruling_numbers r
+ruled_numbers (Err r) = 1 ∷ refusal_numbers r
 
-unfoldable pub checked_numbers : Checked → List ℕ
-checked_numbers Checked.Accepted = 0 ∷ []
-checked_numbers (Checked.NotAllowed k) = 1 ∷ k ∷ []
-checked_numbers (Checked.Refused r) = 2 ∷ refusal_numbers r
+unfoldable pub checked_numbers : Result (Unit {0}) Rejection → List ℕ
+checked_numbers (Ok _) = 0 ∷ []
+checked_numbers (Err (Rejection.NotAllowed k)) = 1 ∷ k ∷ []
+checked_numbers (Err (Rejection.Refused r)) = 2 ∷ refusal_numbers r

@@ -10,8 +10,8 @@ use Rattle.meaning.specs.Endings.{placed_by}
 use Rattle.meaning.specs.Solver.{rows_by, LowestRecord, visit, strikes_of, WholeRuling, head_of, ruled}
 use Rattle.meaning.specs.Checker.{check}
 use Rattle.meaning.specs.Truth.{TrueRuling, FirstNamed, Checks}
-use Rattle.meaning.specs.declared.Checked.{Checked}
-use Rattle.meaning.specs.declared.Checked.TheVariants.{Accepted}
+use Rattle.std.specs.Prelude.{Result, Ok}
+use Rattle.meaning.specs.declared.Rejection.{Rejection}
 
 -- r is the solver's ruling on a placement p whose full form is F
 pub record SolverKeeps (p : Placement) (F : Full) (r : WholeRuling) : Type 0 where
@@ -33,11 +33,11 @@ pub record SolverKeeps (p : Placement) (F : Full) (r : WholeRuling) : Type 0 whe
   -- a none names the first pair of its kind
   pub first : FirstNamed (market F) (trainee_list F) p.orders (struck nothing r.strikes) r.outcome
   -- the checker accepts it
-  pub accepted_by : check F p.orders r ≡ Accepted
+  pub accepted_by : check F p.orders r ≡ Ok tt
 
 -- c is the checker's answer to a ruling r on a placement p whose full form is F
-pub record CheckerKeeps (p : Placement) (F : Full) (r : WholeRuling) (c : Checked) : Type 0 where
+pub record CheckerKeeps (p : Placement) (F : Full) (r : WholeRuling) (c : Result (Unit {0}) Rejection) : Type 0 where
   -- which steps are allowed, and which is the first that isn't
   pub says : Checks (market F) (trainee_list F) (standing p.orders) p.orders r.outcome [] 1 r.strikes c
   -- what is accepted is true
-  pub true_if : c ≡ Accepted → TrueRuling (market F) (standing p.orders) r
+  pub true_if : c ≡ Ok tt → TrueRuling (market F) (standing p.orders) r

@@ -10,8 +10,9 @@ use Rattle.meaning.specs.Endings.{Outcome, placed_by, none_held, none_room, tabl
 use Rattle.meaning.specs.Solver.{WholeRuling}
 use Rattle.meaning.specs.declared.Strike.{Strike}
 use Rattle.meaning.specs.declared.Tested.{Tested}
-use Rattle.meaning.specs.declared.Checked.{Checked}
-use Rattle.meaning.specs.declared.Checked.TheVariants.{Accepted, NotAllowed}
+use Rattle.std.specs.Prelude.{Result, Ok, Err}
+use Rattle.meaning.specs.declared.Rejection.{Rejection}
+use Rattle.meaning.specs.declared.Rejection.TheVariants.{NotAllowed}
 
 -- a respecting matching, and no other is better for any trainee: whoever has a depot in another has one here, that one or a higher one
 pub record BestTable (K : Market) (O : Standing) (L : Table) : Type 0 where
@@ -71,9 +72,9 @@ module _ (K : Market) (lists : ℕ → List ℕ) (O : Standing) (os : List Order
     wrong_ending : (xs : List Strike) → AllowedFrom K O nothing rec xs → outcome_fits K lists O os (struck nothing (rec ++ xs)) e ≡ false
         → FirstWrong rec step xs (step + length xs)
 
-  pub data Checks (rec : List Strike) (step : ℕ) (xs : List Strike) : Checked → Type 0 where
-    accepted : AllowedFrom K O nothing rec xs → outcome_fits K lists O os (struck nothing (rec ++ xs)) e ≡ true → Checks rec step xs Accepted
-    not_allowed : (k : ℕ) → FirstWrong rec step xs k → Checks rec step xs (NotAllowed k)
+  pub data Checks (rec : List Strike) (step : ℕ) (xs : List Strike) : Result (Unit {0}) Rejection → Type 0 where
+    accepted : AllowedFrom K O nothing rec xs → outcome_fits K lists O os (struck nothing (rec ++ xs)) e ≡ true → Checks rec step xs (Ok tt)
+    not_allowed : (k : ℕ) → FirstWrong rec step xs k → Checks rec step xs (Err (NotAllowed k))
 
 -- ---- what the stability test's answer says
 

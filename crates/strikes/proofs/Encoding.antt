@@ -6,35 +6,12 @@ use native.Mathlib.Numerals.{add-one}
 use mathlib.Core.Logic.{⊎_elim}
 use mathlib.Core.Path.{◌≡◌, refl, sym, ap, ap₂, ◌∙◌}
 use mathlib.Core.List.{List, [], ◌∷◌, ◌++◌, append_assoc}
-use lib.ListN.{length, get_or, take, drop, set, length-append, length-drop, get_or-append}
-use lib.Seq.{length-take-le, get_or-append-add, get_or-append_seam, get_or-take, get_or-drop, get_or_at, take_all, take-append-le, sets-eq}
-use Rattle.meaning.specs.declared.Reason.{Reason}
+use lib.ListN.{length, get_or, take, drop, length-append, length-drop, get_or-append}
+use lib.Seq.{length-take-le, get_or-append-add, get_or-append_seam, get_or-take, get_or-drop, get_or_at, take_all, take-append-le}
 use Rattle.meaning.specs.declared.Strike.{Strike}
-use Rattle.meaning.specs.Answers.{reason_number, reason_witness, strike_numbers}
-use Rattle.strikes.specs.Cells.{reason_of, strike_at, strikes_in, cells_with, blank, at}
-
--- ---- reasons
-
-pub reason-again : (r : Reason) → reason_of (reason_number r) (reason_witness r) ≡ r
-unfolding reason_of reason_number reason_witness
-reason-again Reason.Barred = refl
-reason-again (Reason.HeldElsewhere j) = refl
-reason-again Reason.PostsGone = refl
-reason-again (Reason.Passed k) = refl
-
-pub reason-low : (n w : ℕ) → n < 2 → reason_of n w ≡ Reason.Barred
-unfolding reason_of
-reason-low zero w h = refl
-reason-low (suc zero) w h = refl
-reason-low (suc (suc n)) w h = absurd (omega arith)
-
-pub reason-high : (n w : ℕ) → 4 ≤ n → reason_of n w ≡ Reason.Passed w
-unfolding reason_of
-reason-high zero w h = absurd (omega arith)
-reason-high (suc zero) w h = absurd (omega arith)
-reason-high (suc (suc zero)) w h = absurd (omega arith)
-reason-high (suc (suc (suc zero))) w h = absurd (omega arith)
-reason-high (suc (suc (suc (suc n)))) w h = refl
+use Rattle.meaning.specs.Answers.{reason_of, strike_numbers}
+use Rattle.meaning.proofs.Answers.{reason-again}
+use Rattle.strikes.specs.Cells.{strike_at, strikes_in, cells_with, blank, at}
 
 -- ---- a strike and its four cells
 
@@ -105,16 +82,6 @@ strikes-nth cells count k h =
     last = ap (λ l. at l k) (strikes-more cells k) ∙ get_or_at (strikes_in cells k) (strike_at cells k) [] blank k (count-strikes cells k)
 
 -- ---- one strike put
-
--- four stores, one after the other
-pub put-stores : (cells : List ℕ) (k : ℕ) (s : Strike) (n w : ℕ) → n ≡ reason_number s.reason → w ≡ reason_witness s.reason → 4 * k + 4 ≤ length cells
-    → set (set (set (set cells (4 * k) s.trainee) (4 * k + 1) s.depot) (4 * k + 2) n) (4 * k + 3) w ≡ cells_with cells k s
-unfolding cells_with strike_numbers
-put-stores cells k s n w en ew fits =
-    let e₁ : 4 * k + 1 ≡ suc (4 * k) = omega arith in
-    let e₂ : 4 * k + 2 ≡ suc (suc (4 * k)) = omega arith in
-    let e₃ : 4 * k + 3 ≡ suc (suc (suc (4 * k))) = omega arith in
-    rw (en, ew, e₁, e₂, e₃) (sets-eq (strike_numbers s) cells (4 * k) fits ∙ append_assoc (take (4 * k) cells) (strike_numbers s) (drop (4 * k + 4) cells))
 
 module _ (cells : List ℕ) (k : ℕ) (s : Strike) (fits : 4 * k + 4 ≤ length cells) where
   front : length (take (4 * k) cells) ≡ 4 * k

@@ -1,6 +1,4 @@
 -- Laws of strikes in cells.
 --     Encoding, Rows       what is put into cells is read back; a record filled from cells, and cells from a record
---     Turns                a test by its outcome
 pub mod Encoding
 pub mod Rows
-pub mod Turns

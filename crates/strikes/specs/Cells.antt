@@ -1,17 +1,10 @@
 -- Strikes in plain cells, four to a strike: trainee, depot, reason, witness. Assumes nothing.
-use Rattle.std.specs.Prelude.{ℕ, zero, suc, ◌+◌, ◌*◌, min, List, [], ◌∷◌, ◌++◌, get_or, take, drop}
+use Rattle.std.specs.Prelude.{ℕ, zero, suc, ◌+◌, ◌*◌, min, List, [], ◌∷◌, ◌++◌, get_or, take, drop, Result, Ok, Err}
 use Rattle.meaning.specs.declared.Reason.{Reason}
-use Rattle.meaning.specs.declared.Ruled.{Ruled}
+use Rattle.meaning.specs.declared.Ruling.{Ruling}
+use Rattle.meaning.specs.declared.Refusal.{Refusal}
 use Rattle.meaning.specs.declared.Strike.{Strike}
-use Rattle.meaning.specs.Answers.{strike_numbers}
-
--- the reason of a number, 1 to 4, and a witness; no other number is a strike's
-unfoldable pub reason_of : ℕ → ℕ → Reason
-reason_of zero w = Reason.Barred
-reason_of (suc zero) w = Reason.Barred
-reason_of (suc (suc zero)) w = Reason.HeldElsewhere w
-reason_of (suc (suc (suc zero))) w = Reason.PostsGone
-reason_of (suc (suc (suc (suc n)))) w = Reason.Passed w
+use Rattle.meaning.specs.Answers.{reason_of, strike_numbers}
 
 -- the strike that cells hold at k, counted from 0
 unfoldable pub strike_at : List ℕ → ℕ → Strike
@@ -52,9 +45,9 @@ abbrev pub at : List Strike → ℕ → Strike
 at ss k = get_or ss k blank
 
 -- how many strikes an answer leaves in the record: none where it refuses
-unfoldable pub recorded : Ruled → ℕ
-recorded (Ruled.Ruling r) = r.strikes
-recorded (Ruled.Refused r) = 0
+unfoldable pub recorded : Result Ruling Refusal → ℕ
+recorded (Ok r) = r.strikes
+recorded (Err r) = 0
 
 -- how many of `count` strikes to take out of a record of this length: no more than it has, and no more than its full size
 abbrev pub taken : ℕ → ℕ → ℕ

@@ -6,15 +6,12 @@ use Rattle.strikes.proofs.Rows.{fill_start, fill_more}
 use Rattle.strikes.proofs.fill_record.Goals as goal
 
 pub loop-k-init : goal.loop-k-init
-loop-k-init c = (omega arith, fill_start c.args.cells.now c.args.log.now)
+loop-k-init c = fill_start c.args.cells.now c.args.log.now
 
 pub loop-k-preserved : goal.loop-k-preserved
 loop-k-preserved c =
     let k = c.loop-k.k in
-    let inside : k < length c.args.log.now = omega arith in (
-      omega arith,
-      c.store.ensures
-          ∙ ap₂ (λ log s. set log k s) c.loop-k.invariant.1 c.strike_in-s.ensures
-          ∙ fill_more c.args.cells.now c.args.log.now k inside
-          ∙ ap (filled c.args.cells.now c.args.log.now) (sym (add-one k)),
-    )
+    let inside : k < length c.args.log.now = omega arith in
+    ap₂ (λ log s. set log k s) c.loop-k.invariant c.strike_in.ensures
+    ∙ fill_more c.args.cells.now c.args.log.now k inside
+    ∙ ap (filled c.args.cells.now c.args.log.now) (sym (add-one k))

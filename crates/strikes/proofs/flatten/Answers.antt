@@ -1,21 +1,19 @@
 -- A turn puts the strike at k into its cells, which lays one strike more.
-use Rattle.std.proofs.Common.{◌<◌, ◌≤◌, ◌+◌, ◌*◌, ◌∙◌, length, sym, ap, ap₂, arith}
+use Rattle.std.proofs.Common.{◌<◌, ◌≤◌, ◌+◌, ◌*◌, ◌∙◌, length, sym, ap, arith}
 use native.Mathlib.Numerals.{add-one}
-use Rattle.strikes.specs.Cells.{flat, cells_with}
+use Rattle.strikes.specs.Cells.{flat, cells_with, at}
 use Rattle.strikes.proofs.Rows.{flat_start, flat-more}
 use Rattle.strikes.proofs.flatten.Goals as goal
 
 pub loop-k-init : goal.loop-k-init
-loop-k-init c = (omega arith, flat_start c.args.log.now c.args.cells.now)
+loop-k-init c = flat_start c.args.log.now c.args.cells.now
 
 pub loop-k-preserved : goal.loop-k-preserved
 loop-k-preserved c =
     let k = c.loop-k.k in
     let inside : k < length c.args.log.now = omega arith in
-    let room : 4 * k + 4 ≤ length c.args.cells.now = omega arith in (
-      omega arith,
-      c.put_strike.ensures
-          ∙ ap₂ (λ cells s. cells_with cells k s) c.loop-k.invariant.1 c.strike_at-s.ensures
-          ∙ flat-more c.args.log.now c.args.cells.now k inside room
-          ∙ ap (flat c.args.log.now c.args.cells.now) (sym (add-one k)),
-    )
+    let room : 4 * k + 4 ≤ length c.args.cells.now = omega arith in
+    c.put_strike.ensures
+    ∙ ap (λ cells. cells_with cells k (at c.args.log.now k)) c.loop-k.invariant
+    ∙ flat-more c.args.log.now c.args.cells.now k inside room
+    ∙ ap (flat c.args.log.now c.args.cells.now) (sym (add-one k))

@@ -1,10 +1,7 @@
 -- After k turns the cells begin with those of k strikes.
-use Rattle.std.proofs.Common.{◌≡◌, ◌-◌, ◌≤◌}
+use Rattle.std.proofs.Common.{◌≡◌}
 use Rattle.strikes.specs.Cells.{flat}
 use Rattle.strikes.proofs.flatten.Given as goal
 
 abbrev pub invariant-loop-k : goal.invariant-loop-k
-invariant-loop-k l = (l.k ≤ l.count) × (l.cells ≡ flat l.log l.initial.cells l.k)
-
-abbrev pub decreases-loop-k : goal.decreases-loop-k
-decreases-loop-k l = l.count - l.k
+invariant-loop-k l = l.cells ≡ flat l.log l.initial.cells l.k
