@@ -13,7 +13,9 @@ use Rattle.meaning.specs.Numbers.{In, ◌&◌}
 use Rattle.meaning.specs.Placement.{Placement}
 use Rattle.meaning.specs.Full.{is_not_received}
 use Rattle.meaning.specs.Answers.{SHORT_PART, NOT_READ, refusal}
+use Rattle.std.specs.Prelude.{Ok, Err}
 use Rattle.meaning.specs.declared.Receipt.{Receipt}
+use Rattle.meaning.specs.declared.Refusal.{Refusal}
 use Rattle.meaning.proofs.Booleans.{true-or-false, and_left, and_right}
 use Rattle.meaning.proofs.Numbers.{order}
 use Rattle.tables.specs.Cells.{missing_cell, trainee_start}
@@ -70,15 +72,15 @@ said_in ls zero u = absurd (omega (arith, u.low))
 said_in ls (suc k) u = said_at ls k (omega (arith, u.high))
 
 module _ (h e : List ℕ) (b : Sides) (s : SidesSeen h e b) (i : ℕ) where
-  pub receipt-zero : i < 1 → Receipt.OutOfRange ≡ receipt_of (said_by b.trainees i)
+  pub receipt-zero : i < 1 → Ok Receipt.OutOfRange ≡ receipt_of (said_by b.trainees i)
   unfolding receipt_of said_by
   receipt-zero k = let z : i ≡ 0 = omega arith in rw z
 
-  pub receipt-past : 1 ≤ i → get_or h 1 0 < i → Receipt.OutOfRange ≡ receipt_of (said_by b.trainees i)
+  pub receipt-past : 1 ≤ i → get_or h 1 0 < i → Ok Receipt.OutOfRange ≡ receipt_of (said_by b.trainees i)
   unfolding receipt_of said_by
   receipt-past a k = go i k
     where
-      go : (i : ℕ) → get_or h 1 0 < i → Receipt.OutOfRange ≡ receipt_of (said_by b.trainees i)
+      go : (i : ℕ) → get_or h 1 0 < i → Ok Receipt.OutOfRange ≡ receipt_of (said_by b.trainees i)
       go zero k = absurd (omega arith)
       go (suc j) k = sym (ap receipt_of (said-past b.trainees j (omega (arith, s.counts.trainees))))
 
@@ -92,34 +94,34 @@ module _ (h e : List ℕ) (b : Sides) (s : SidesSeen h e b) (i : ℕ) where
     cell : eqb (get_or h (trainee_start i + 1) 0) missing_cell ≡ is_not_received list
     cell = list-cell (get_or h 2 0) (trainee_start i) h e list (omega (arith, s.room.few_depots)) (s.trainee i u)
 
-    pub receipt-not-received : get_or h (trainee_start i + 1) 0 ≡ missing_cell → Receipt.NotReceived ≡ receipt_of (said_by b.trainees i)
+    pub receipt-not-received : get_or h (trainee_start i + 1) 0 ≡ missing_cell → Ok Receipt.NotReceived ≡ receipt_of (said_by b.trainees i)
     unfolding receipt_of said_of is_not_received
     receipt-not-received q = sym (ap receipt_of said-list ∙ go list (sym cell ∙ eq-eqb _ _ q))
       where
-        go : (l : Option (List ℕ)) → is_not_received l ≡ true → receipt_of (said_of l) ≡ Receipt.NotReceived
+        go : (l : Option (List ℕ)) → is_not_received l ≡ true → receipt_of (said_of l) ≡ Ok Receipt.NotReceived
         go none x = refl
         go (some l) x = absurd (false≢true x)
 
-    pub receipt-received : (get_or h (trainee_start i + 1) 0 ≡ missing_cell → ⊥) → Receipt.Received ≡ receipt_of (said_by b.trainees i)
+    pub receipt-received : (get_or h (trainee_start i + 1) 0 ≡ missing_cell → ⊥) → Ok Receipt.Received ≡ receipt_of (said_by b.trainees i)
     unfolding receipt_of said_of is_not_received
     receipt-received q = sym (ap receipt_of said-list ∙ go list (sym cell ∙ ne_eqb _ _ q))
       where
-        go : (l : Option (List ℕ)) → is_not_received l ≡ false → receipt_of (said_of l) ≡ Receipt.Received
+        go : (l : Option (List ℕ)) → is_not_received l ≡ false → receipt_of (said_of l) ≡ Ok Receipt.Received
         go none x = absurd (false≢true (sym x))
         go (some l) x = refl
 
 -- ---- refusals first
 
 module _ (h e o : List ℕ) (i : ℕ) where
-  pub receipt-short : sized h e o ≡ false → Receipt.Refused (refusal SHORT_PART 0) ≡ trainee_receipt h e o i
+  pub receipt-short : sized h e o ≡ false → Err (refusal SHORT_PART 0) ≡ trainee_receipt h e o i
   unfolding said receipt_of
   receipt-short k = rw (k, said)
 
-  pub receipt-unread : sized h e o ≡ true → is_some (placement_of h e o) ≡ false → Receipt.Refused (refusal NOT_READ 0) ≡ trainee_receipt h e o i
+  pub receipt-unread : sized h e o ≡ true → is_some (placement_of h e o) ≡ false → Err (refusal NOT_READ 0) ≡ trainee_receipt h e o i
   unfolding said said_if_held receipt_of
   receipt-unread k f = rw (k, said) (go (placement_of h e o) f)
     where
-      go : (p : Option Placement) → is_some p ≡ false → Receipt.Refused (refusal NOT_READ 0) ≡ receipt_of (said_if_held p i)
+      go : (p : Option Placement) → is_some p ≡ false → Err (refusal NOT_READ 0) ≡ receipt_of (said_if_held p i)
       go none x = refl
       go (some p) x = absurd (false≢true (sym x))
 
@@ -140,6 +142,9 @@ module _ (h e o : List ℕ) (i : ℕ) where
           record { sides = d.sides; decoded = d.sides-of; by = rw (k, said) (rw x (ap (λ z. said_by z.trainees i) (sym d.is))) }
 
 -- ---- the part handed back
+
+pub ok-same : {r k : Receipt} → Ok {E = Refusal} r ≡ Ok k → r ≡ k
+ok-same q = cc
 
 record ReceivedBy (ls : List (Option (List ℕ))) (i : ℕ) (l : List ℕ) : Type 0 where
   here : In (length ls) i
@@ -167,11 +172,11 @@ module _ (h e o : List ℕ) (i : ℕ) where
     pub cells : trainee_start i + 1 < length h
     pub seen : PartSeen h e (trainee_start i) (trainee_list h e o i)
 
-  pub received-part : trainee_receipt h e o i ≡ Receipt.Received → ReceivedPart
+  pub received-part : trainee_receipt h e o i ≡ Ok Receipt.Received → ReceivedPart
   unfolding receipt_of handed_back said said_if_held
   received-part r = sizing (true-or-false (sized h e o)) (placement_of h e o) refl
     where
-      by-sides : (b : Sides) → sides_of h e ≡ some b → said h e o i ≡ said_by b.trainees i → (x : Said) → said h e o i ≡ x → receipt_of x ≡ Receipt.Received → ReceivedPart
+      by-sides : (b : Sides) → sides_of h e ≡ some b → said h e o i ≡ said_by b.trainees i → (x : Said) → said h e o i ≡ x → receipt_of x ≡ Ok Receipt.Received → ReceivedPart
       by-sides b d q (refused n) z y = absurd (let z : ◌≡◌ {A = ℕ} 0 1 = cc in omega arith)
       by-sides b d q out_of_range z y = absurd (let z : ◌≡◌ {A = ℕ} 0 1 = cc in omega arith)
       by-sides b d q not_received z y = absurd (let z : ◌≡◌ {A = ℕ} 0 1 = cc in omega arith)
@@ -192,11 +197,11 @@ module _ (h e o : List ℕ) (i : ℕ) where
           let g = held-sides h e o i t (ap is_some x) in
           by-sides g.sides g.decoded g.by (said h e o i) refl r
 
-  pub other-part : (trainee_receipt h e o i ≡ Receipt.Received → ⊥) → [] ≡ trainee_list h e o i
+  pub other-part : (trainee_receipt h e o i ≡ Ok Receipt.Received → ⊥) → [] ≡ trainee_list h e o i
   unfolding receipt_of handed_back
   other-part r = go (said h e o i) r
     where
-      go : (x : Said) → (receipt_of x ≡ Receipt.Received → ⊥) → [] ≡ handed_back x
+      go : (x : Said) → (receipt_of x ≡ Ok Receipt.Received → ⊥) → [] ≡ handed_back x
       go (refused n) y = refl
       go out_of_range y = refl
       go not_received y = refl

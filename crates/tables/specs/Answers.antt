@@ -1,12 +1,13 @@
 -- What is answered of tables: their sizes (number 1), the first line where something was not received (number 7), and a trainee's list.
 -- Assumes nothing.
-use Rattle.std.specs.Prelude.{ℕ, zero, suc, Bool, true, false, List, [], ◌∷◌, length, leb}
+use Rattle.std.specs.Prelude.{ℕ, zero, suc, Bool, true, false, List, [], ◌∷◌, length, leb, Result, Ok, Err}
 use Rattle.std.proofs.Math.Option.{Option, none, some}
 use Rattle.meaning.specs.Numbers.{◌&◌}
 use Rattle.meaning.specs.Placement.{Placement}
 use Rattle.meaning.specs.Full.{Full, Received, whole, lacking, full}
 use Rattle.meaning.specs.Answers.{SHORT_PART, NOT_READ, refusal}
 use Rattle.meaning.specs.declared.Receipt.{Receipt}
+use Rattle.meaning.specs.declared.Refusal.{Refusal}
 use Rattle.tables.specs.Decode.{Sides, placement_with, placement_of}
 
 -- ---- number 1
@@ -65,14 +66,14 @@ handed_back out_of_range = []
 handed_back (refused r) = []
 
 -- what tells an empty list from none
-unfoldable pub receipt_of : Said → Receipt
-receipt_of (received l) = Receipt.Received
-receipt_of not_received = Receipt.NotReceived
-receipt_of out_of_range = Receipt.OutOfRange
-receipt_of (refused r) = Receipt.Refused (refusal r 0)
+unfoldable pub receipt_of : Said → Result Receipt Refusal
+receipt_of (received l) = Ok Receipt.Received
+receipt_of not_received = Ok Receipt.NotReceived
+receipt_of out_of_range = Ok Receipt.OutOfRange
+receipt_of (refused r) = Err (refusal r 0)
 
 abbrev pub trainee_list : List ℕ → List ℕ → List ℕ → ℕ → List ℕ
 trainee_list h e o i = handed_back (said h e o i)
 
-abbrev pub trainee_receipt : List ℕ → List ℕ → List ℕ → ℕ → Receipt
+abbrev pub trainee_receipt : List ℕ → List ℕ → List ℕ → ℕ → Result Receipt Refusal
 trainee_receipt h e o i = receipt_of (said h e o i)

@@ -1,7 +1,7 @@
 // The lent tables: what their cells hold, and what can be read from them.
 #![tactic(auto)]
 
-ghost use Rattle.std.specs.Prelude.{◌≡◌, not, false, List, [], ℕ, ◌+◌, ◌-◌, ◌*◌, ◌≤◌, ◌<◌, length, get_or, drop};
+ghost use Rattle.std.specs.Prelude.{◌≡◌, not, false, List, [], ℕ, ◌+◌, ◌-◌, ◌*◌, ◌≤◌, ◌<◌, length, get_or, drop, Result, Ok};
 ghost use Rattle.std.proofs.Math.Option.{some};
 ghost use Rattle.meaning.specs.Numbers.{◌&◌};
 ghost use Rattle.meaning.specs.Lists.{weigh};
@@ -11,7 +11,7 @@ ghost use Rattle.tables.specs.Decode.{within, good_entries, list_from, posts_fro
 ghost use Rattle.tables.specs.Answers.{sized, full_sides, lacking_line, said_by, receipt_of, trainee_list, trainee_receipt};
 ghost use Rattle.tables.specs.Walk.{is_some, end_of, Ends, first_line, trainee_missing, depot_missing};
 
-use meaning::{Receipt, Refusal};
+use meaning::{Fault, Receipt, Refusal};
 
 // A length or posts not received.
 pub const NOT_RECEIVED: usize = 65535;
@@ -468,7 +468,7 @@ pub fn sizes_ok(heads: &[u16], entries: &[u16], orders: &[u16]) -> bool
 // What tells an empty list from none, for heads that hold a placement's, whatever the entries beside them.
 fn receipt_in(heads: &[u16], i: usize) -> Receipt
     requires { HeadRoom heads.now }
-    ensures { (e : List ℕ) (b : Sides) → sides_of heads.now e ≡ some b → result ≡ receipt_of (said_by b.trainees i) }
+    ensures { (e : List ℕ) (b : Sides) → sides_of heads.now e ≡ some b → Ok result ≡ receipt_of (said_by b.trainees i) }
 {
     if i < 1 {
         return Receipt::OutOfRange;
@@ -483,23 +483,36 @@ fn receipt_in(heads: &[u16], i: usize) -> Receipt
 }
 
 // Whether trainee i's list was received, or why that can't be said.
-pub fn trainee_receipt(heads: &[u16], entries: &[u16], orders: &[u16], i: usize) -> Receipt
+pub fn trainee_receipt(
+    heads: &[u16],
+    entries: &[u16],
+    orders: &[u16],
+    i: usize,
+) -> Result<Receipt, Refusal>
     ensures { result ≡ trainee_receipt heads.now entries.now orders.now i }
 {
     if !sizes_ok(heads, entries, orders) {
-        return Receipt::Refused(Refusal { number: 1, line: 0 });
+        return Err(Refusal {
+            fault: Fault::ShortPart,
+            line: 0,
+        });
     }
     if !used_cells_ok(heads, entries, orders) {
-        return Receipt::Refused(Refusal { number: 8, line: 0 });
+        return Err(Refusal {
+            fault: Fault::NotRead,
+            line: 0,
+        });
     }
-    receipt_in(heads, i)
+    Ok(receipt_in(heads, i))
 }
 
 // Trainee i's list, as the part of the lent entries that holds it; the empty part where the receipt is not that it was received.
 pub fn trainee_list<'a>(heads: &[u16], entries: &'a [u16], orders: &[u16], i: usize) -> &'a [u16]
     ensures { result.now ≡ trainee_list heads.now entries.now orders.now i }
 {
-    let receipt = trainee_receipt(heads, entries, orders, i);
+    let Ok(receipt) = trainee_receipt(heads, entries, orders, i) else {
+        return &entries[0..0];
+    };
     if let Receipt::Received = receipt {
         list_at(heads, entries, trainee_at(i))
     } else {
