@@ -13,7 +13,7 @@ use Rattle.meaning.specs.Numbers.{In, ◌&◌}
 use Rattle.meaning.specs.Placement.{Placement}
 use Rattle.meaning.specs.Full.{is_not_received}
 use Rattle.meaning.specs.Answers.{SHORT_PART, NOT_READ, refusal}
-use Rattle.std.specs.Prelude.{Ok, Err}
+use Rattle.std.specs.Prelude.{Result, Ok, Err}
 use Rattle.meaning.specs.declared.Receipt.{Receipt}
 use Rattle.meaning.specs.declared.Refusal.{Refusal}
 use Rattle.meaning.proofs.Booleans.{true-or-false, and_left, and_right}
@@ -143,7 +143,7 @@ module _ (h e o : List ℕ) (i : ℕ) where
 
 -- ---- the part handed back
 
-pub ok-same : {r k : Receipt} → Ok {E = Refusal} r ≡ Ok k → r ≡ k
+pub ok-same : {r k : Receipt} → ◌≡◌ {A = Result Receipt Refusal} (Ok r) (Ok k) → r ≡ k
 ok-same q = cc
 
 record ReceivedBy (ls : List (Option (List ℕ))) (i : ℕ) (l : List ℕ) : Type 0 where
