@@ -5,11 +5,11 @@ use Rattle.rows.specs.Marks.{with_mark}
 use Rattle.rows.specs.Left.{first_place_left}
 use Rattle.reasons.specs.Answers.{choice_of}
 use Rattle.reasons.proofs.Steps.{choose-barred, choose-elsewhere, choose-crowded}
-use Rattle.reasons.proofs.choose.Goals as goal
+use Rattle.reasons.proofs.Standing.choose.Goals as goal
 
 pub returns-then-marked : goal.returns-then-marked
 unfolding choice_of
-returns-then-marked c = choose-barred _ _ c.args.holds.now _ _ c.args.i c.args.j (sym c.marked.ensures ∙ c.if-marked.true)
+returns-then-marked c = choose-barred _ _ c.args.self.now.holds.now _ _ c.args.i c.args.j (sym c.marked.ensures ∙ c.if-marked.true)
 
 pub returns-then-at-lt64 : goal.returns-then-at-lt64
 unfolding choice_of
