@@ -10,7 +10,9 @@ use lib.ListN.{length, get_or, take, length-take}
 use lib.Seq.{get_or-take}
 use lib.Dec.{ltb, leb}
 use borrow.Author.Tests.{lt-ltb, le-leb, lt-leb}
-use Rattle.ranks.specs.View.{Once, Names}
+use Rattle.std.specs.Prelude.{Option, Some, None, MatchOption}
+use Rattle.std.specs.List.{AllWithin, HoldsAt}
+use Rattle.ranks.specs.View.{place_of, Once, Names}
 use Rattle.meaning.specs.Numbers.{◌&◌}
 use Rattle.meaning.specs.Lists.{place}
 use Rattle.meaning.proofs.Numbers.{order}
@@ -38,6 +40,13 @@ place_none (y ∷ ys) x k h n = go (place (y ∷ ys) x) (at ys y x) (place_none 
     go q (here e) w = absurd (n 0 (omega arith) e)
     go q (later ne p e) w = absurd (omega arith)
     go q (nowhere ne e) w = refl
+
+-- what the search for the first x says, as a place
+pub place_first : (l : List ℕ) (x : ℕ) (r : Option ℕ) → MatchOption r (AllWithin (λ y. y ≡ x → ⊥) l 0 (length l)) (λ i. (i < length l) × HoldsAt (λ y. y ≡ x) l i × AllWithin (λ y. y ≡ x → ⊥) l 0 i) → place_of r ≡ place l x
+place_first l x None h = sym (place_none l x (length l) (omega arith) (λ q k. h q 0 (omega arith) k))
+place_first l x (Some i) h =
+    let w = place-hit l x i h.0 (λ q k. h.2 q 0 (omega arith) k) (h.1 0) in
+    omega (arith, w)
 
 -- ---- what a place says
 

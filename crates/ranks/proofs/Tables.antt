@@ -1,21 +1,21 @@
 -- The tables' market, read where a trainee or a depot is in range, and lawful.
 -- Assumes nothing.
-use Prim.Native.Nat.{ℕ, ◌+◌, ◌≤◌, ◌<◌}
+use Prim.Native.Nat.{ℕ, suc, ◌+◌, ◌<◌}
 use mathlib.Core.Path.{◌≡◌, sym, ap, ◌∙◌}
-use mathlib.Core.Logic.{◌⊎◌, inl, inr, ⊎_elim}
-use mathlib.Core.Bool.{true, false, not}
+use mathlib.Core.Logic.{◌⊎◌, inl, inr}
+use mathlib.Core.Bool.{Bool, true, false}
 use mathlib.Core.List.{List}
 use native.Mathlib.Omega.{arith}
 use lib.ListN.{get_or}
-use lib.Dec.{ltb, eqb}
-use borrow.Author.Tests.{lt-ltb, le-ltb, eq-eqb, ne_eqb}
-use Rattle.ranks.specs.View.{n_of, m_of, wishes_of, ranking_of, posts_of, market_of, FullTables}
+use lib.Dec.{ltb}
+use borrow.Author.Tests.{lt-ltb, le-ltb, ltb-true}
+use Rattle.std.specs.Prelude.{Option, Some, None, is_some}
+use Rattle.ranks.specs.View.{n_of, m_of, wishes_of, ranking_of, posts_of, market_of, place_of, FullTables}
 use Rattle.ranks.proofs.Places.{on_list}
 use Rattle.meaning.specs.Numbers.{In, ◌&◌}
 use Rattle.meaning.specs.Lists.{place}
 use Rattle.meaning.specs.Market.{Ranged, Strict, mutual?}
 use Rattle.meaning.proofs.Booleans.{true-or-false}
-use Rattle.meaning.proofs.Numbers.{order}
 use Rattle.meaning.proofs.Lists.{place-inj}
 use Rattle.tables.specs.Cells.{trainee_start, depot_start, part}
 use Rattle.tables.specs.Decode.{within}
@@ -58,25 +58,23 @@ module _ (h e : List ℕ) (ft : FullTables h e) where
 
 -- ---- whether two rank each other
 
-pub not-zero : (q : ℕ) → not (eqb q 0) ≡ ltb 0 q
-not-zero q = ⊎_elim
-    (λ (z : q ≤ 0). let e : q ≡ 0 = omega arith in rw (eq-eqb q 0 e, le-ltb 0 q z))
-    (λ (l : 0 < q). let n : q ≡ 0 → ⊥ = λ e. omega arith in rw (ne_eqb q 0 n, lt-ltb 0 q l))
-    (order q 0)
+some-place : (p : Option ℕ) → ltb 0 (place_of p) ≡ is_some p
+some-place None = le-ltb 0 0 (omega arith)
+some-place (Some p) = lt-ltb 0 (suc p) (omega arith)
 
-module _ (h e : List ℕ) (i j p : ℕ) (w : List ℕ) (ew : w ≡ wishes_of h e i) (ep : p ≡ place w j) where
-  at-list : place (wishes_of h e i) j ≡ p
-  at-list = ap (λ (l : List ℕ). place l j) (sym ew) ∙ sym ep
+module _ (h e : List ℕ) (i j : ℕ) (p : Option ℕ) (w : List ℕ) (ew : w ≡ wishes_of h e i) (ep : place_of p ≡ place w j) (b : Bool) (eb : b ≡ is_some p) where
+  found : ltb 0 (place (wishes_of h e i) j) ≡ b
+  found = ap (λ (l : List ℕ). ltb 0 (place l j)) (sym ew) ∙ ap (ltb 0) (sym ep) ∙ some-place p ∙ sym eb
 
-  pub not-ranked : p ≡ 0 → false ≡ mutual? (market_of h e) i j
+  pub not-ranked : b ≡ false → b ≡ mutual? (market_of h e) i j
   unfolding mutual? market_of ◌&◌
-  not-ranked z = rw (at-list, z)
+  not-ranked f = f ∙ rw (found, f)
 
-  pub ranked-in : FullTables h e → (p ≡ 0 → ⊥) → In (m_of h) j
-  ranked-in ft n = on_list (In (m_of h)) (wishes_of h e i) j (rw at-list (omega arith)) (ft.trainee_names i)
+  pub ranked-in : FullTables h e → b ≡ true → In (m_of h) j
+  ranked-in ft t = on_list (In (m_of h)) (wishes_of h e i) j (ltb-true 0 _ (found ∙ t)) (ft.trainee_names i)
 
-  pub ranked-back : (p ≡ 0 → ⊥) → (q : ℕ) (r : List ℕ) → r ≡ ranking_of h e j → q ≡ place r i → not (eqb q 0) ≡ mutual? (market_of h e) i j
+  pub ranked-back : b ≡ true → (q : Option ℕ) (r : List ℕ) → r ≡ ranking_of h e j → place_of q ≡ place r i → (d : Bool) → d ≡ is_some q → d ≡ mutual? (market_of h e) i j
   unfolding mutual? market_of ◌&◌
-  ranked-back n q r er eq =
-      let a : place (ranking_of h e j) i ≡ q = ap (λ (l : List ℕ). place l i) (sym er) ∙ sym eq in
-      not-zero q ∙ rw (at-list, lt-ltb 0 p (omega arith), a)
+  ranked-back t q r er eq d ed =
+      let a : ltb 0 (place (ranking_of h e j) i) ≡ d = ap (λ (l : List ℕ). ltb 0 (place l i)) (sym er) ∙ ap (ltb 0) (sym eq) ∙ some-place q ∙ sym ed in
+      rw (found, t, a)

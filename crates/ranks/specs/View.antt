@@ -1,6 +1,7 @@
 -- The market that tables mean where everything was received, read from their cells. That it is the market of the placement that they hold is proved.
 -- Assumes nothing.
 use Rattle.std.specs.Prelude.{ℕ, suc, ◌+◌, ◌*◌, ◌≤◌, ◌<◌, ◌≡◌, Bool, true, false, List, [], length, get_or}
+use Rattle.std.specs.Prelude.{Option, None, Some}
 use Rattle.meaning.specs.Numbers.{In, sum}
 use Rattle.meaning.specs.Lists.{place}
 use Rattle.meaning.specs.Market.{Market}
@@ -39,6 +40,11 @@ market_of h e = record {
   depot_rank = λ j i. place (ranking_of h e j) i;
   posts = posts_of h;
 }
+
+-- a place counted from 0, as a place counted from 1: 0 for none
+abbrev pub place_of : Option ℕ → ℕ
+place_of None = 0
+place_of (Some p) = suc p
 
 -- ---- what full tables meet
 

@@ -5,23 +5,89 @@ ghost use Rattle.std.specs.Prelude.{◌≡◌};
 ghost use Rattle.meaning.specs.Numbers.{In};
 ghost use Rattle.meaning.specs.Lists.{place};
 ghost use Rattle.meaning.specs.Market.{mutual?};
-ghost use Rattle.ranks.specs.View.{n_of, m_of, wishes_of, ranking_of, posts_of, market_of, FullTables};
+ghost use Rattle.ranks.specs.View.{n_of, m_of, wishes_of, ranking_of, posts_of, market_of, place_of, FullTables};
+
+// The market that tables mean in which everything was received.
+#[derive(Clone, Copy)]
+pub struct Market<'a> {
+    pub heads: &'a [u16],
+    pub entries: &'a [u16],
+    pub ghost full: { FullTables heads.now entries.now },
+}
+
+impl<'a> Market<'a> {
+    // The number of trainees.
+    pub fn trainees(&self) -> usize
+        ensures { result ≡ n_of self.now.heads.now }
+    {
+        tables::trainees_of(self.heads)
+    }
+
+    // The number of depots.
+    pub fn depots(&self) -> usize
+        ensures { result ≡ m_of self.now.heads.now }
+    {
+        tables::depots_of(self.heads)
+    }
+
+    // The list of trainee i.
+    pub fn wishes(&self, i: usize) -> &'a [u16]
+        requires { In (n_of self.now.heads.now) i }
+        ensures { result.now ≡ wishes_of self.now.heads.now self.now.entries.now i }
+    {
+        tables::list_at(self.heads, self.entries, tables::trainee_at(i))
+    }
+
+    // The list of depot j.
+    pub fn ranking(&self, j: usize) -> &'a [u16]
+        requires { In (m_of self.now.heads.now) j }
+        ensures { result.now ≡ ranking_of self.now.heads.now self.now.entries.now j }
+    {
+        tables::list_at(
+            self.heads,
+            self.entries,
+            tables::depot_at(self.trainees(), j),
+        )
+    }
+
+    // The posts of depot j.
+    pub fn posts(&self, j: usize) -> usize
+        requires { In (m_of self.now.heads.now) j }
+        ensures { result ≡ posts_of self.now.heads.now j }
+    {
+        tables::posts_of(self.heads, tables::depot_at(self.trainees(), j))
+    }
+
+    // Whether trainee i and j rank each other: the trainee's list is the short one, and most questions end there with no.
+    pub fn is_mutual(&self, i: usize, j: usize) -> bool
+        requires { In (n_of self.now.heads.now) i }
+        ensures { result ≡ mutual? (market_of self.now.heads.now self.now.entries.now) i j }
+    {
+        place_on(self.wishes(i), j).is_some() && place_on(self.ranking(j), i).is_some()
+    }
+}
+
+// The place of x on a list, counted from 0, if it is there.
+pub fn place_on(list: &[u16], x: usize) -> Option<usize>
+    ensures { place_of result ≡ place list.now x }
+{
+    list.iter().position(|y| usize::from(*y) == x)
+}
 
 // The list of trainee i.
-pub fn trainee_part<'a>(heads: &[u16], entries: &'a [u16], i: usize) -> &'a [u16]
+pub fn trainee_part<'a>(heads: &'a [u16], entries: &'a [u16], i: usize) -> &'a [u16]
     requires { FullTables heads.now entries.now × In (n_of heads.now) i }
     ensures { result.now ≡ wishes_of heads.now entries.now i }
 {
-    tables::list_at(heads, entries, tables::trainee_at(i))
+    Market { heads, entries }.wishes(i)
 }
 
 // The list of depot j.
-pub fn depot_part<'a>(heads: &[u16], entries: &'a [u16], j: usize) -> &'a [u16]
+pub fn depot_part<'a>(heads: &'a [u16], entries: &'a [u16], j: usize) -> &'a [u16]
     requires { FullTables heads.now entries.now × In (m_of heads.now) j }
     ensures { result.now ≡ ranking_of heads.now entries.now j }
 {
-    let n = tables::trainees_of(heads);
-    tables::list_at(heads, entries, tables::depot_at(n, j))
+    Market { heads, entries }.ranking(j)
 }
 
 // The posts of depot j.
@@ -29,33 +95,13 @@ pub fn posts_at(heads: &[u16], entries: &[u16], j: usize) -> usize
     requires { FullTables heads.now entries.now × In (m_of heads.now) j }
     ensures { result ≡ posts_of heads.now j }
 {
-    let n = tables::trainees_of(heads);
-    tables::posts_of(heads, tables::depot_at(n, j))
+    Market { heads, entries }.posts(j)
 }
 
-// The place of x on a list, counted from 1; 0 where it is not there.
-pub fn place_on(list: &[u16], x: usize) -> usize
-    ensures { result ≡ place list.now x }
-{
-    let mut k: usize = 0;
-    while k < list.len() {
-        if tables::entry_of(list, k) == x {
-            return k + 1;
-        }
-        k += 1;
-    }
-    0
-}
-
-// Whether trainee i and j rank each other: the trainee's list is the short one, and most questions end there with no.
+// Whether trainee i and j rank each other.
 pub fn is_mutual(heads: &[u16], entries: &[u16], i: usize, j: usize) -> bool
     requires { FullTables heads.now entries.now × In (n_of heads.now) i }
     ensures { result ≡ mutual? (market_of heads.now entries.now) i j }
 {
-    let wishes = trainee_part(heads, entries, i);
-    if place_on(wishes, j) == 0 {
-        return false;
-    }
-    let ranking = depot_part(heads, entries, j);
-    place_on(ranking, i) != 0
+    Market { heads, entries }.is_mutual(i, j)
 }

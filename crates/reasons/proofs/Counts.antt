@@ -1,6 +1,6 @@
 -- How many of 1 to n stand on a list and pass is how many of the list pass.
 -- Assumes nothing.
-use Prim.Native.Nat.{ℕ, suc, ◌+◌, ◌≤◌, ◌<◌}
+use Prim.Native.Nat.{ℕ, zero, suc, ◌+◌, ◌≤◌, ◌<◌}
 use mathlib.Core.Path.{◌≡◌, refl, sym, ap, ap₂, ◌∙◌}
 use mathlib.Core.Logic.{◌⊎◌, inl, inr}
 use mathlib.Core.Bool.{Bool, true, false}
@@ -11,7 +11,10 @@ use lib.ListN.{drop_of_length-le, length, get_or, drop}
 use lib.Seq.{drop-cons}
 use lib.Dec.{ltb, eqb}
 use borrow.Author.Tests.{lt-ltb, eq-eqb, ne_eqb}
-use Rattle.reasons.specs.Scans.{count_in, smaller_if, least_in}
+use Rattle.std.specs.Prelude.{Option, Some, None}
+use Rattle.reasons.specs.Answers.{choice_of}
+use Rattle.reasons.specs.Reasons.{number_or}
+use Rattle.reasons.specs.Scans.{count_in, smaller_by, smaller, smaller_if, smaller_of, least_in}
 use Rattle.meaning.specs.Numbers.{In, ◌&◌, bit, sum, count}
 use Rattle.meaning.specs.Lists.{place}
 use Rattle.meaning.proofs.Numbers.{same, sum-cong, sum-zero, sum-plus, sum-in}
@@ -78,3 +81,35 @@ module _ (f : ℕ → Bool) (l : List ℕ) (k whole : ℕ) where
   pub least-done : (w : ℕ) → length l ≤ k → whole ≡ least_in f (drop k l) w → w ≡ whole
   unfolding least_in
   least-done w h q = sym (q ∙ rw (drop_of_length-le l h))
+
+-- ---- the smallest found so far, as a number: 0 for none
+
+abbrev pub number_found : Option ℕ → ℕ
+number_found None = 0
+number_found (Some k) = k
+
+abbrev pub Found : Option ℕ → Type 0
+Found None = Unit {0}
+Found (Some k) = 0 < k
+
+pub found-smaller : (b : Bool) (k : ℕ) (w : Option ℕ) → 0 < k → Found w → Found (smaller_of b k w)
+found-smaller false k w l f = f
+found-smaller true k None l f = l
+found-smaller true k (Some w) l f = go (ltb k w)
+  where
+    go : (b : Bool) → 0 < smaller_by b k w
+    go true = l
+    go false = f
+
+pub smaller-number : (b : Bool) (k : ℕ) (w : Option ℕ) → Found w → number_found (smaller_of b k w) ≡ smaller_if b k (number_found w)
+unfolding smaller_if smaller
+smaller-number false k w f = refl
+smaller-number true k None f = refl
+smaller-number true k (Some zero) f = absurd (omega arith)
+smaller-number true k (Some (suc w)) f = refl
+
+pub found-number : (w : Option ℕ) → Found w → choice_of w ≡ number_or (number_found w)
+unfolding choice_of number_or
+found-number None f = refl
+found-number (Some zero) f = absurd (omega arith)
+found-number (Some (suc w)) f = refl

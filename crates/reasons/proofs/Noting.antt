@@ -19,7 +19,7 @@ use Rattle.meaning.specs.Placement.{Kind, held, barred, Order, LegalOrder}
 use Rattle.meaning.specs.Market.{same_kind, names, standing}
 use Rattle.meaning.proofs.Booleans.{never, iff, and_left, and_right, and_intro}
 use Rattle.meaning.proofs.Numbers.{order, same}
-use Rattle.meaning.proofs.Lists.{at, some-use}
+use Rattle.meaning.proofs.Lists.{some-use}
 use Rattle.meaning.proofs.Matchings.{names-trainee, names-depot}
 use Rattle.rows.specs.Marks.{is_marked, with_mark}
 use Rattle.rows.proofs.Marking.{unmarked-beyond, marked-at-place, marked-elsewhere, past-end-at}
@@ -194,32 +194,17 @@ standing-noted h o holds bars xs e fine noted =
 
 -- ---- the code's way through one order
 
-module _ (h o rows : List ℕ) (few : m_of h ≤ 64) (fo : FullOrders h o) (k : ℕ) (less : k < get_or o 0 0) where
-  pub order-ready : (at i : ℕ) {j : ℕ} → at ≡ order_start k → i ≡ get_or o (at + 1) 0 → j ≡ get_or o (at + 2) 0 → n_of h < length rows → (1 ≤ j) × (j ≤ 64) × (i < length rows)
-  order-ready at i {j} ea ei ej long =
-      let a : i ≡ trainee_in o k = ei ∙ ap (λ (x : ℕ). get_or o (x + 1) 0) ea in
-      let b : j ≡ depot_in o k = ej ∙ ap (λ (x : ℕ). get_or o (x + 2) 0) ea in
-      let u = fo.depot k less in
-      let t = fo.trainee k less in
-      (omega (arith, b, u.low), omega (arith, b, u.high), omega (arith, a, t.high))
-
-module _ (o holds bars : List ℕ) (k at i j : ℕ) (ea : at ≡ order_start k) (ei : i ≡ get_or o (at + 1) 0) (ej : j ≡ get_or o (at + 2) 0) where
-  named-i : i ≡ trainee_in o k
-  named-i = ei ∙ ap (λ (x : ℕ). get_or o (x + 1) 0) ea
-
-  named-j : j ≡ depot_in o k
-  named-j = ej ∙ ap (λ (x : ℕ). get_or o (x + 2) 0) ea
-
-  pub noted-held : get_or o at 0 ≡ 0 → {holds' : List ℕ} → holds' ≡ mark_for true holds i j
+module _ (o holds bars : List ℕ) (k i j : ℕ) (ei : i ≡ trainee_in o k) (ej : j ≡ depot_in o k) (b : Bool) (eb : b ≡ eqb (get_or o (order_start k) 0) 0) where
+  pub noted-held : b ≡ true → {holds' : List ℕ} → holds' ≡ mark_for true holds i j
       → (holds' ≡ mark_for (eqb (get_or o (order_start k) 0) 0) holds (trainee_in o k) (depot_in o k)) × (bars ≡ mark_for (not (eqb (get_or o (order_start k) 0) 0)) bars (trainee_in o k) (depot_in o k))
   unfolding mark_for
-  noted-held z e =
-      let t : eqb (get_or o (order_start k) 0) 0 ≡ true = eq-eqb (get_or o (order_start k) 0) 0 (rw (← ea) z) in
-      (e ∙ rw (t, named-i, named-j), rw t)
+  noted-held t e =
+      let z : eqb (get_or o (order_start k) 0) 0 ≡ true = sym eb ∙ t in
+      (e ∙ rw (z, ei, ej), rw z)
 
-  pub noted-barred : (get_or o at 0 ≡ 0 → ⊥) → {bars' : List ℕ} → bars' ≡ mark_for true bars i j
+  pub noted-barred : b ≡ false → {bars' : List ℕ} → bars' ≡ mark_for true bars i j
       → (holds ≡ mark_for (eqb (get_or o (order_start k) 0) 0) holds (trainee_in o k) (depot_in o k)) × (bars' ≡ mark_for (not (eqb (get_or o (order_start k) 0) 0)) bars (trainee_in o k) (depot_in o k))
   unfolding mark_for
-  noted-barred n e =
-      let t : eqb (get_or o (order_start k) 0) 0 ≡ false = ne_eqb (get_or o (order_start k) 0) 0 (λ q. n (rw ea q)) in
-      (rw t, e ∙ rw (t, named-i, named-j))
+  noted-barred t e =
+      let z : eqb (get_or o (order_start k) 0) 0 ≡ false = sym eb ∙ t in
+      (rw z, e ∙ rw (z, ei, ej))

@@ -1,15 +1,21 @@
 -- One law for each way through the code that looks for a reason.
 -- Assumes nothing.
-use Prim.Native.Nat.{ℕ, zero, suc, ◌+◌, ◌-◌, ◌≤◌, ◌<◌}
+use Prim.Native.Nat.{ℕ, suc, ◌+◌, ◌-◌, ◌≤◌, ◌<◌}
 use mathlib.Core.Path.{◌≡◌, refl, sym, ap, ◌∙◌}
 use mathlib.Core.Bool.{Bool, true, false, false≢true}
-use mathlib.Core.Option.{none, some}
+use mathlib.Core.Option.{Option, none, some}
+use Rattle.std.specs.Prelude.{Option as Chosen, Some, None}
+use Rattle.std.specs.Ordering.{partial_le}
+use Rattle.reasons.specs.declared.Far.{Far}
+use Rattle.reasons.specs.contracts.FarPartialOrd.TheImpl.{partial_cmp-value}
+use Rattle.reasons.specs.Answers.{choice_of, far_number}
 use mathlib.Core.List.{List}
 use native.Mathlib.Omega.{arith}
-use lib.ListN.{length, get_or, take, length-take}
+use lib.ListN.{length, get_or, take}
 use lib.Dec.{ltb, leb}
+use mir.Val.{bool_byte}
 use borrow.Author.Tests.{lt-ltb, le-ltb, leb-true, le-leb, lt-leb}
-use Rattle.reasons.specs.Scans.{count_in, smaller, smaller_if, least_in}
+use Rattle.reasons.specs.Scans.{count_in, least_in}
 use Rattle.reasons.specs.Reasons.{settled, settled_by, above_of, number_or, depot_at, held_elsewhere, choice_in}
 use Rattle.meaning.specs.Numbers.{◌&◌, bit}
 use Rattle.meaning.specs.Lists.{place}
@@ -17,8 +23,9 @@ use Rattle.meaning.specs.Solver.{lowest}
 use Rattle.meaning.proofs.Booleans.{and_left, and_right, and_intro}
 use Rattle.rows.specs.Marks.{is_marked, with_mark, turned}
 use Rattle.rows.specs.Left.{first_place_left}
-use Rattle.ranks.specs.View.{n_of, wishes_of, ranking_of, posts_of, Names, FullTables}
-use Rattle.ranks.proofs.Places.{place-le, names-take}
+use Rattle.ranks.specs.View.{wishes_of, ranking_of, posts_of, place_of}
+use Rattle.ranks.proofs.Places.{place-le}
+use Rattle.meaning.specs.declared.Reason.{Reason}
 use Rattle.meaning.specs.declared.Reason.TheVariants.{Barred, HeldElsewhere, PostsGone, Passed}
 
 -- ---- how far everything is struck
@@ -51,6 +58,10 @@ module _ (h e rows : List ℕ) (j k p : ℕ) (w : List ℕ) (ew : w ≡ wishes_o
 
 -- ---- the pass along a list
 
+pub byte-bit : (b : Bool) → bool_byte b ≡ bit b
+byte-bit true = refl
+byte-bit false = refl
+
 pub bit-most : (b : Bool) → bit b ≤ 1
 bit-most true = omega arith
 bit-most false = omega arith
@@ -69,31 +80,40 @@ far-tests true false h = (refl, refl)
 far-tests false true h = absurd (false≢true (h refl))
 far-tests false false h = (refl, refl)
 
-module _ (h e rows part : List ℕ) (j q far k : ℕ) (ek : k ≡ get_or part q 0) (ef : far ≡ settled_by (settled h e rows 1 j k) (settled h e rows 0 j k)) where
-  pub passes-above : leb 1 far ≡ settled h e rows 1 j (get_or part q 0)
-  passes-above = ap (leb 1) ef ∙ (far-tests _ _ (settled-down h e rows j k)).0 ∙ ap (settled h e rows 1 j) ek
+-- the order of the cases is that of their numbers
+above-least : (far : Far) → partial_le partial_cmp-value.it Far.Above far ≡ leb 1 (far_number far)
+above-least Far.Short = refl
+above-least Far.Above = refl
+above-least Far.Down = refl
 
-  pub passes-down : leb 2 far ≡ settled h e rows 0 j (get_or part q 0)
-  passes-down = ap (leb 2) ef ∙ (far-tests _ _ (settled-down h e rows j k)).1 ∙ ap (settled h e rows 0 j) ek
+down-least : (far : Far) → partial_le partial_cmp-value.it Far.Down far ≡ leb 2 (far_number far)
+down-least Far.Short = refl
+down-least Far.Above = refl
+down-least Far.Down = refl
+
+module _ (h e rows part : List ℕ) (j q k : ℕ) (far : Far) (ek : k ≡ get_or part q 0) (ef : far_number far ≡ settled_by (settled h e rows 1 j k) (settled h e rows 0 j k)) where
+  pub passes-above : partial_le partial_cmp-value.it Far.Above far ≡ settled h e rows 1 j (get_or part q 0)
+  passes-above = above-least far ∙ ap (leb 1) ef ∙ (far-tests _ _ (settled-down h e rows j k)).0 ∙ ap (settled h e rows 1 j) ek
+
+  pub passes-down : partial_le partial_cmp-value.it Far.Down far ≡ settled h e rows 0 j (get_or part q 0)
+  passes-down = down-least far ∙ ap (leb 2) ef ∙ (far-tests _ _ (settled-down h e rows j k)).1 ∙ ap (settled h e rows 0 j) ek
 
 -- ---- the lowest reason
 
-module _ (posts c : ℕ) (v : ℕ) where
-  pub gone-first : posts ≤ c → some PostsGone ≡ lowest false none (leb posts c) (number_or v)
+module _ (posts c : ℕ) (v : Option ℕ) where
+  pub gone-first : posts ≤ c → some PostsGone ≡ lowest false none (leb posts c) v
   unfolding lowest
   gone-first l = rw (le-leb posts c l)
 
-  pub passed_none : c < posts → v ≡ 0 → none ≡ lowest false none (leb posts c) (number_or v)
-  unfolding lowest number_or
-  passed_none l z = rw (lt-leb posts c l, z)
+-- the reason that the smallest who was passed gives
+abbrev pub passed_by : Chosen ℕ → Chosen Reason
+passed_by None = None
+passed_by (Some k) = Some (Passed k)
 
-  pub passed-some : c < posts → (v ≡ 0 → ⊥) → some (Passed v) ≡ lowest false none (leb posts c) (number_or v)
-  unfolding lowest number_or
-  passed-some l n = rw (lt-leb posts c l) (go v n)
-    where
-      go : (v : ℕ) → (v ≡ 0 → ⊥) → some (Passed v) ≡ lowest false none false (number_or v)
-      go zero n = absurd (n refl)
-      go (suc v) n = refl
+pub passed-last : (posts c : ℕ) (v : Chosen ℕ) → c < posts → choice_of (passed_by v) ≡ lowest false none (leb posts c) (choice_of v)
+unfolding lowest choice_of
+passed-last posts c None l = rw (lt-leb posts c l)
+passed-last posts c (Some k) l = rw (lt-leb posts c l)
 
 depot-found : (p : ℕ) → p < 64 → depot_at p ≡ some (p + 1)
 unfolding depot_at
@@ -122,70 +142,31 @@ module _ (h e holds bars rows : List ℕ) (i j : ℕ) where
     unfolding choice_in
     choose-crowded l = rw (u, elsewhere-is ∙ depot-none at l)
 
--- ---- the smaller of two
-
-module _ (b : Bool) (k w : ℕ) where
-  pub smaller-skip : b ≡ false → w ≡ smaller_if b k w
-  unfolding smaller_if
-  smaller-skip u = rw u
-
-  module _ (t : b ≡ true) where
-    pub smaller-none : w ≡ 0 → k ≡ smaller_if b k w
-    unfolding smaller_if smaller
-    smaller-none z = rw (t, z)
-
-    pub smaller-less : (w ≡ 0 → ⊥) → k < w → k ≡ smaller_if b k w
-    unfolding smaller_if smaller
-    smaller-less n l = rw t (go w n l)
-      where
-        go : (w : ℕ) → (w ≡ 0 → ⊥) → k < w → k ≡ smaller k w
-        go zero n l = absurd (n refl)
-        go (suc w) n l = rw (lt-ltb k (suc w) l)
-
-    pub smaller-not : (w ≡ 0 → ⊥) → w ≤ k → w ≡ smaller_if b k w
-    unfolding smaller_if smaller
-    smaller-not n l = rw t (go w n l)
-      where
-        go : (w : ℕ) → (w ≡ 0 → ⊥) → w ≤ k → w ≡ smaller k w
-        go zero n l = absurd (n refl)
-        go (suc w) n l = rw (le-ltb k (suc w) l)
-
 -- ---- the part of the depot's list above the trainee
 
-module _ (h e rows : List ℕ) (i j p : ℕ) (r : List ℕ) (er : r ≡ ranking_of h e j) (ep : p ≡ place r i) (ranked : 0 < place (ranking_of h e j) i) where
-  its-place : place (ranking_of h e j) i ≡ p
-  its-place = ap (λ (l : List ℕ). place l i) (sym er) ∙ sym ep
+module _ (h e rows : List ℕ) (i j q : ℕ) (r : List ℕ) (o : Chosen ℕ) (er : r ≡ ranking_of h e j) (eo : place_of o ≡ place r i) (eq : o ≡ Some q) where
+  its-place : place (ranking_of h e j) i ≡ suc q
+  its-place = ap (λ (l : List ℕ). place l i) (sym er) ∙ sym eo ∙ ap place_of eq
 
-  pub ranked-there : 1 ≤ p
-  ranked-there = omega (arith, its-place, ranked)
+  pub ranked-inside : suc q ≤ length r
+  ranked-inside = omega (arith, ap (λ (l : List ℕ). place l i) er, its-place, place-le r i)
 
-  pub ranked-inside : p ≤ length r
-  ranked-inside = omega (arith, ep, place-le r i)
-
-  pub above-is : take (p - 1 - 0) r ≡ above_of h e i j
+  above-is : take q r ≡ above_of h e i j
   unfolding above_of
-  above-is = let z : p - 1 - 0 ≡ p - 1 = omega arith in rw (er, its-place, z)
+  above-is = let z : suc q - 1 ≡ q = omega arith in rw (er, its-place, z)
 
-  pub above-ready : FullTables h e → Names (n_of h) (take (p - 1 - 0) r) × (length (take (p - 1 - 0) r) ≤ 65535)
-  above-ready ft =
-      (names-take (n_of h) (p - 1 - 0) r (rw er (ft.depot_names j)), omega (arith, length-take (p - 1 - 0) r, ap length er, ft.depot_short j))
-
-  module _ (posts c v : ℕ) (es : posts ≡ posts_of h j) (ec : c ≡ count_in (settled h e rows 1 j) (take (p - 1 - 0) r))
-      (ev : v ≡ least_in (settled h e rows 0 j) (take (p - 1 - 0) r) 0) where
+  module _ (posts c : ℕ) (v : Chosen ℕ) (es : posts ≡ posts_of h j) (ec : c ≡ count_in (settled h e rows 1 j) (take q r))
+      (ev : choice_of v ≡ number_or (least_in (settled h e rows 0 j) (take q r) 0)) where
     counts-are : c ≡ count_in (settled h e rows 1 j) (above_of h e i j)
     counts-are = ec ∙ ap (count_in (settled h e rows 1 j)) above-is
 
-    leasts-are : v ≡ least_in (settled h e rows 0 j) (above_of h e i j) 0
-    leasts-are = ev ∙ ap (λ (l : List ℕ). least_in (settled h e rows 0 j) l 0) above-is
+    leasts-are : choice_of v ≡ number_or (least_in (settled h e rows 0 j) (above_of h e i j) 0)
+    leasts-are = ev ∙ ap (λ (l : List ℕ). number_or (least_in (settled h e rows 0 j) l 0)) above-is
 
     pub crowd-gone : posts ≤ c → some PostsGone
         ≡ lowest false none (leb (posts_of h j) (count_in (settled h e rows 1 j) (above_of h e i j))) (number_or (least_in (settled h e rows 0 j) (above_of h e i j) 0))
-    crowd-gone l = rw (← es, ← counts-are, ← leasts-are) (gone-first posts c v l)
+    crowd-gone l = rw (← es, ← counts-are) (gone-first posts c _ l)
 
-    pub crowd-none : c < posts → v ≡ 0 → none
+    pub crowd-passed : c < posts → choice_of (passed_by v)
         ≡ lowest false none (leb (posts_of h j) (count_in (settled h e rows 1 j) (above_of h e i j))) (number_or (least_in (settled h e rows 0 j) (above_of h e i j) 0))
-    crowd-none l z = rw (← es, ← counts-are, ← leasts-are) (passed_none posts c v l z)
-
-    pub crowd-some : c < posts → (v ≡ 0 → ⊥) → some (Passed v)
-        ≡ lowest false none (leb (posts_of h j) (count_in (settled h e rows 1 j) (above_of h e i j))) (number_or (least_in (settled h e rows 0 j) (above_of h e i j) 0))
-    crowd-some l n = rw (← es, ← counts-are, ← leasts-are) (passed-some posts c v l n)
+    crowd-passed l = rw (← es, ← counts-are, ← leasts-are) (passed-last posts c v l)

@@ -1,6 +1,6 @@
 -- What the loops along a list compute: how many pass, and the smallest that passes.
 -- Assumes nothing.
-use Rattle.std.specs.Prelude.{ℕ, zero, suc, ◌+◌, Bool, true, false, List, [], ◌∷◌, ltb}
+use Rattle.std.specs.Prelude.{ℕ, zero, suc, ◌+◌, Bool, true, false, List, [], ◌∷◌, ltb, Option, Some, None}
 use Rattle.meaning.specs.Numbers.{bit}
 
 -- how many of a list pass
@@ -20,6 +20,15 @@ smaller k (suc w) = smaller_by (ltb k (suc w)) k (suc w)
 unfoldable pub smaller_if : Bool → ℕ → ℕ → ℕ
 smaller_if true k w = smaller k w
 smaller_if false k w = w
+
+-- the same of a number that may be there
+abbrev pub smaller_found : ℕ → Option ℕ → ℕ
+smaller_found k None = k
+smaller_found k (Some w) = smaller_by (ltb k w) k w
+
+abbrev pub smaller_of : Bool → ℕ → Option ℕ → Option ℕ
+smaller_of true k w = Some (smaller_found k w)
+smaller_of false k w = w
 
 -- the smallest of a list that passes, or w where that is smaller; 0 is none
 unfoldable pub least_in : (ℕ → Bool) → List ℕ → ℕ → ℕ

@@ -1,6 +1,6 @@
 -- A table's cells, and the search upward for the first that passes: one more, and the end.
 -- Assumes nothing.
-use Prim.Native.Nat.{ℕ, zero, suc, ◌+◌, ◌-◌, ◌≤◌, ◌<◌}
+use Prim.Native.Nat.{ℕ, suc, ◌+◌, ◌-◌, ◌<◌}
 use mathlib.Core.Path.{◌≡◌, sym, ap, ◌∙◌}
 use mathlib.Core.Logic.{⊎_elim}
 use mathlib.Core.Bool.{Bool, true, false, not}
@@ -9,6 +9,7 @@ use mathlib.Core.List.{List}
 use native.Mathlib.Omega.{arith}
 use native.Mathlib.Numerals.{add-one}
 use lib.ListN.{get_or}
+use lib.Dec.{ltb, eqb}
 use borrow.Author.Tests.{lt-ltb}
 use Rattle.stability.specs.Search.{found_of, stranger?}
 use Rattle.meaning.specs.Numbers.{In, ◌&◌, first_from, smallest}
@@ -18,8 +19,7 @@ use Rattle.meaning.specs.Stability.{first_stranger, first_over, blocking_from, s
 use Rattle.meaning.proofs.Booleans.{true-or-false, never, and_intro, none-some}
 use Rattle.meaning.proofs.Numbers.{Smallest, least, no-least, smallest-is}
 use Rattle.meaning.proofs.Pairs.{mutual-is}
-use Rattle.stability.specs.declared.Found.{Found}
-use Rattle.stability.specs.declared.Found.TheVariants.{At, Nothing}
+use Rattle.std.specs.Prelude as rust
 use Rattle.meaning.specs.declared.Tested.{Tested}
 use Rattle.meaning.specs.declared.Tested.TheVariants.{NotMutual, OverPosts}
 
@@ -41,19 +41,24 @@ from_one f n = let z : n ≡ n + 1 - 1 = omega arith in ap (λ d. first_from d 1
 
 -- ---- a trainee's cell
 
-pub cell-is : (t : List ℕ) (i : ℕ) → 1 ≤ i → get_or t (i - 1) 0 ≡ table_of t i
+pub cell-at : (t : List ℕ) (k : ℕ) → table_of t (k + 1) ≡ get_or t k 0
 unfolding table_of
-cell-is t zero l = absurd (omega arith)
-cell-is t (suc k) l = let z : suc k - 1 ≡ k = omega arith in rw z
+cell-at t k = rw add-one
 
-module _ (K : Market) (M : Table) (i x : ℕ) (is : x ≡ M i) where
-  pub no-depot : x ≡ 0 → false ≡ stranger? K M i
-  unfolding ◌&◌
-  no-depot z = rw (← is, z)
+pub its-cell : (t : List ℕ) (k x : ℕ) → x ≡ get_or t k 0 → x ≡ table_of t (k + 1)
+its-cell t k x e = e ∙ sym (cell-at t k)
 
-  pub some-depot : (x ≡ 0 → ⊥) → (b : Bool) → b ≡ mutual? K i x → not b ≡ stranger? K M i
+module _ (x : ℕ) (b : Bool) where
+  pub no-depot : x ≡ 0 → not (eqb x 0) ≡ (ltb 0 x & b)
   unfolding ◌&◌
-  some-depot n b e = rw (← is, lt-ltb 0 x (omega arith), e)
+  no-depot z = rw z
+
+  pub some-depot : (x ≡ 0 → ⊥) → b ≡ (ltb 0 x & b)
+  unfolding ◌&◌
+  some-depot n = rw (lt-ltb 0 x (omega arith))
+
+pub stranger-at : (K : Market) (M : Table) (i x : ℕ) (b : Bool) → x ≡ M i → b ≡ (ltb 0 x & not (mutual? K i x)) → stranger? K M i ≡ b
+stranger-at K M i x b is e = sym (e ∙ rw is)
 
 -- none is a stranger: each pair is mutual
 pub all-mutual : (K : Market) (M : Table) → none ≡ first_stranger K M → (i : ℕ) → In K.n i → 0 < M i → Mutual K i (M i)
@@ -69,14 +74,13 @@ all-mutual K M q i r l = go (smallest K.n (stranger? K M)) (smallest-is K.n (str
 
 -- ---- from a search's answer to the test's
 
-module _ (found : Found) (first : Option ℕ) (is : found_of found ≡ first) where
-  pub found-one : (k : ℕ) → found ≡ At k → first ≡ some k
-  unfolding found_of
-  found-one k e = sym is ∙ ap found_of e
+pub found-one : (first : Option ℕ) (k : ℕ) → found_of (rust.Some k) ≡ first → first ≡ some k
+unfolding found_of
+found-one first k is = sym is
 
-  pub found_none : found ≡ Nothing → none ≡ first
-  unfolding found_of
-  found_none e = sym (sym is ∙ ap found_of e)
+pub found_none : (first : Option ℕ) → found_of rust.None ≡ first → none ≡ first
+unfolding found_of
+found_none first is = is
 
 module _ (K : Market) (lists : ℕ → List ℕ) (M : Table) where
   pub answer-stranger : (i : ℕ) → first_stranger K M ≡ some i → NotMutual i ≡ test_by K lists M

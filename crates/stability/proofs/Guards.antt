@@ -1,16 +1,15 @@
 -- The guards of the stability test, in the order in which they are tried: each way through the code against the definition.
 -- Assumes nothing.
-use Prim.Native.Nat.{ℕ, ◌+◌, ◌≤◌, ◌<◌}
+use Prim.Native.Nat.{ℕ, ◌≤◌}
 use mathlib.Core.Path.{◌≡◌, refl, sym, ap, ◌∙◌}
-use mathlib.Core.Bool.{true, false, true≢false, false≢true}
+use mathlib.Core.Bool.{Bool, true, false, ◌&&◌, true≢false, false≢true}
 use mathlib.Core.Option.{Option, none, some}
-use mathlib.Core.List.{List}
+use mathlib.Core.List.{List, [], ◌∷◌}
 use native.Mathlib.Omega.{arith}
-use native.Mathlib.Numerals.{add-one}
-use lib.ListN.{drop_of_length-le, length, get_or, take, drop, length-take}
-use lib.Seq.{drop-cons}
+use lib.ListN.{length, get_or, take, length-take}
 use lib.Dec.{leb}
-use borrow.Author.Tests.{leb-true, le-leb, lt-leb, eqb-true, eq-eqb, ne_eqb}
+use borrow.Author.Tests.{leb-true, eqb-true, eq-eqb, ne_eqb}
+use Rattle.std.specs.List.{list_all}
 use Rattle.stability.specs.Test.{long_enough, read_depots, read_beside, read_with, test_if_full, test_if_read, test_of}
 use Rattle.stability.specs.Search.{TestTables}
 use Rattle.meaning.specs.Numbers.{◌&◌}
@@ -46,18 +45,15 @@ module _ (h e o t : List ℕ) where
 
 -- ---- number 8: the table's cells
 
-module _ (cells : List ℕ) (k : ℕ) (inv : read_depots cells ≡ read_depots (drop k cells)) where
-  pub depot-wrong : k < length cells → 64 < get_or cells k 0 → false ≡ read_depots cells
-  unfolding read_depots ◌&◌
-  depot-wrong l u = sym (inv ∙ rw (drop-cons cells k 0) (rw (lt-leb (get_or cells k 0) 64 u)))
+both-read : (b c d : Bool) → c ≡ d → (b && c) ≡ (b & d)
+unfolding ◌&◌
+both-read true c d e = e
+both-read false c d e = refl
 
-  pub depot-right : k < length cells → get_or cells k 0 ≤ 64 → read_depots cells ≡ read_depots (drop (k + 1) cells)
-  unfolding read_depots ◌&◌
-  depot-right l u = inv ∙ rw (add-one, drop-cons cells k 0) (rw (le-leb (get_or cells k 0) 64 u))
-
-  pub depots-end : length cells ≤ k → true ≡ read_depots cells
-  unfolding read_depots
-  depots-end l = sym (inv ∙ rw (drop_of_length-le cells l))
+pub all-read : (cells : List ℕ) → list_all (λ j. leb j 64) cells ≡ read_depots cells
+unfolding read_depots
+all-read [] = refl
+all-read (j ∷ js) = both-read (leb j 64) _ _ (all-read js)
 
 -- ---- number 8: all of it
 

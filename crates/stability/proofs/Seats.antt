@@ -3,7 +3,9 @@
 use Prim.Native.Nat.{ℕ, zero, suc, ◌+◌, ◌≤◌, ◌<◌}
 use mathlib.Core.Path.{◌≡◌, refl, sym, ap, ◌∙◌, subst}
 use mathlib.Core.Logic.{◌⊎◌, inl, inr, ⊎_elim}
-use mathlib.Core.Bool.{Bool, true, false, not}
+use mathlib.Core.Bool.{Bool, true, false, not, cond}
+use Rattle.std.proofs.Common.{Equal, Greater}
+use Rattle.std.specs.Ordering.{is_lt, nat_cmp, ord_max}
 use mathlib.Core.List.{List}
 use native.Mathlib.Omega.{arith}
 use native.Mathlib.Numerals.{add-one}
@@ -30,6 +32,27 @@ stored g g' cells j v long small holds is other x l = ⊎_elim
     (λ (e : j ≡ x). ap (λ y. get_or (set cells j v) y 0) (sym e) ∙ get_or-set_same cells j v 0 (omega arith) ∙ is ∙ ap g' e)
     (λ ne. get_or-set_other cells j x v 0 (λ e. ne (sym e)) ∙ holds x l ∙ sym (other x ne))
     (same j x)
+
+-- ---- the larger of two
+
+pub larger-right : (a b : ℕ) → a < b → larger a b ≡ b
+unfolding larger
+larger-right a b l = rw (lt-ltb a b l, larger)
+
+pub larger-left : (a b : ℕ) → b ≤ a → larger a b ≡ a
+unfolding larger
+larger-left a b l = rw (le-ltb a b l, larger)
+
+-- the library's larger is the same
+pub larger-max : (a b : ℕ) → ord_max nat_cmp a b ≡ larger a b
+larger-max a b = ⊎_elim (λ (u : a ≤ b). rw (le-ltb b a u) (beyond (eqb b a)) ∙ right u) (λ (u : b < a). rw (lt-ltb b a u) (sym (larger-left a b (omega arith)))) (order a b)
+  where
+    beyond : (e : Bool) → cond (is_lt (cond e Equal Greater)) a b ≡ b
+    beyond true = refl
+    beyond false = refl
+
+    right : a ≤ b → b ≡ larger a b
+    right u = ⊎_elim (λ (v : b ≤ a). let z : b ≡ a = omega arith in z ∙ sym (larger-left a b v)) (λ (v : a < b). sym (larger-right a b v)) (order b a)
 
 -- ---- one trainee more
 
@@ -63,6 +86,13 @@ module _ (M : Table) (k : ℕ) (cells : List ℕ) (long : length cells ≡ 65) (
         (e ∙ ap (λ a. larger a (K.depot_rank j (k + 1))) (w j small) ∙ sym (worst-taken j (eq-eqb (M (k + 1)) j (sym is))))
         (λ x ne. worst-kept x (ne_eqb (M (k + 1)) x (λ e. ne (is ∙ e))))
 
+    -- a depot that doesn't rank the trainee keeps its worst rank
+    pub worsts-same : Worsts K M k cells → K.depot_rank j (k + 1) ≡ 0 → Worsts K M (k + 1) cells
+    worsts-same w z x l = ⊎_elim
+        (λ (e : M (k + 1) ≡ x). w x l ∙ sym (worst-taken x (eq-eqb (M (k + 1)) x e) ∙ ap (larger (worst_of K M k x)) (ap (λ y. K.depot_rank y (k + 1)) (sym e ∙ sym is) ∙ z) ∙ larger-left (worst_of K M k x) 0 (omega arith)))
+        (λ (n : M (k + 1) ≡ x → ⊥). w x l ∙ sym (worst-kept x (ne_eqb (M (k + 1)) x n)))
+        (same (M (k + 1)) x)
+
 -- where each cell is small, so is the next trainee's
 pub given-small : (t : List ℕ) (k j : ℕ) → k < length t → ((i : ℕ) → In (length t) i → table_of t i ≤ 64) → j ≡ table_of t (k + 1) → j ≤ 64
 given-small t k j l small is = rw is (small (k + 1) (record { low = omega arith; high = omega arith }))
@@ -87,16 +117,6 @@ counts_start M j l = get_or-replicate 65 j 0 0 (omega arith)
 pub worsts-start : (K : Market) (M : Table) → Worsts K M 0 (replicate 65 0)
 unfolding worst_of
 worsts-start K M j l = get_or-replicate 65 j 0 0 (omega arith)
-
--- ---- the larger of two
-
-pub larger-right : (a b : ℕ) → a < b → larger a b ≡ b
-unfolding larger
-larger-right a b l = rw (lt-ltb a b l, larger)
-
-pub larger-left : (a b : ℕ) → b ≤ a → larger a b ≡ a
-unfolding larger
-larger-left a b l = rw (le-ltb a b l, larger)
 
 larger-above : (r a b : ℕ) → r < b → ltb r (larger a b) ≡ true
 larger-above r a b l = ⊎_elim

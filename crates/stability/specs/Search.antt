@@ -1,24 +1,28 @@
 -- What the searches of the stability test go by: how many trainees each depot has, and the worst rank among them.
 -- Assumes nothing.
 use Rattle.std.specs.Prelude.{ℕ, zero, suc, ◌-◌, ◌≤◌, ◌<◌, ◌≡◌, Bool, true, false, not, List, length, get_or, ltb, eqb}
+use Rattle.std.specs.Prelude as rust
 use Rattle.std.proofs.Math.Option.{Option, none, some}
 use Rattle.meaning.specs.Numbers.{In, ◌&◌, ◌or◌, count}
 use Rattle.meaning.specs.Lists.{place}
 use Rattle.meaning.specs.Market.{Market, Table, Mutual, mutual?}
 use Rattle.meaning.specs.Endings.{table_of}
 use Rattle.ranks.specs.View.{n_of, market_of, FullTables}
-use Rattle.stability.specs.declared.Found.{Found}
-use Rattle.stability.specs.declared.Found.TheVariants.{At, Nothing}
 
 -- ---- the first that is wrong
 
-unfoldable pub found_of : Found → Option ℕ
-found_of (At k) = some k
-found_of Nothing = none
+unfoldable pub found_of : rust.Option ℕ → Option ℕ
+found_of (rust.Some k) = some k
+found_of rust.None = none
 
 -- trainee i has a depot that isn't mutual
 abbrev pub stranger? : Market → Table → ℕ → Bool
 stranger? K M i = ltb 0 (M i) & not (mutual? K i (M i))
+
+-- a place counted from 1, if there is one
+unfoldable pub rank_in : ℕ → rust.Option ℕ
+rank_in zero = rust.None
+rank_in (suc p) = rust.Some (suc p)
 
 -- ---- what is counted once for all pairs
 

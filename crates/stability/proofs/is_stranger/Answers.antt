@@ -1,11 +1,11 @@
 -- No depot is never wrong; any other is, unless it is mutual.
-use Rattle.meaning.specs.Endings.{table_of}
-use Rattle.ranks.specs.View.{market_of}
+use mathlib.Core.Path.{ap, ◌∙◌}
+use mathlib.Core.Bool.{not}
 use Rattle.stability.proofs.Firsts.{no-depot, some-depot}
 use Rattle.stability.proofs.is_stranger.Goals as goal
 
-pub returns-then-j-eq0 : goal.returns-then-j-eq0
-returns-then-j-eq0 c = let a = c.args in no-depot (market_of a.heads.now a.entries.now) (table_of a.table.now) a.i _ c.depot_of-j.ensures c.if-j-eq0.true
+pub returns-then-j-ne0 : goal.returns-then-j-ne0
+returns-then-j-ne0 c = ap not c.is_mutual.ensures ∙ some-depot _ _ c.if-j-ne0.true
 
-pub returns : goal.returns
-returns c = let a = c.args in some-depot (market_of a.heads.now a.entries.now) (table_of a.table.now) a.i _ c.depot_of-j.ensures c.if-j-eq0.false _ c.is_mutual.ensures
+pub returns-else-j-ne0 : goal.returns-else-j-ne0
+returns-else-j-ne0 c = no-depot _ _ c.if-j-ne0.false

@@ -1,7 +1,0 @@
--- The posts stand in the depot's block.
-use mathlib.Core.Path.{sym, ◌∙◌}
-use Rattle.ranks.proofs.Tables.{posts-are}
-use Rattle.ranks.proofs.posts_at.Goals as goal
-
-pub returns : goal.returns
-returns c = c.posts_of.ensures ∙ rw (c.depot_at.ensures, c.trainees_of-n.ensures) (sym (posts-are _ c.args.j c.requires.1))
