@@ -8,7 +8,9 @@ use native.Mathlib.Omega.{arith}
 use lib.ListN.{length, drop}
 use lib.Seq.{take_all}
 use borrow.Author.Tests.{le-leb, lt-leb}
-use Rattle.meaning.specs.declared.Ruled.{Ruled}
+use Rattle.std.specs.Prelude.{Result}
+use Rattle.meaning.specs.declared.Ruling.{Ruling}
+use Rattle.meaning.specs.declared.Refusal.{Refusal}
 use Rattle.meaning.specs.Answers.{ruled_numbers}
 use Rattle.tables.specs.Cells.{laid}
 use Rattle.strikes.specs.Cells.{strikes_in, cells_of, flat, recorded}
@@ -16,8 +18,7 @@ use Rattle.strikes.proofs.Encoding.{count-strikes}
 use Rattle.strikes.proofs.Rows.{cells-length}
 use Rattle.solver.specs.Answer.{solve_of, given_by}
 use Rattle.solver.proofs.Fits.{given-fits}
-use Rattle.exports.specs.declared.Numbers.{Numbers}
-use Rattle.exports.specs.Calls.{call, answered, in_eight, after_solving, numbers_in, Numbered}
+use Rattle.exports.specs.Calls.{call, answered, in_eight, after_solving}
 
 -- ---- the answer's cells
 
@@ -31,14 +32,12 @@ module _ {A : Type 0} (answer : List ℕ) (few many : A) where
   enough h = rw (le-leb 8 (length answer) h, in_eight)
 
 -- what is laid and returned are the numbers
-pub answers : (x : Numbers) (numbers answer answer' : List ℕ) (r : ℕ) (parts : List (List ℕ)) → Numbered x numbers → (r ≡ x.count) × (answer' ≡ laid (numbers_in x) answer)
-    → call r answer' parts ≡ answered numbers answer parts
-answers x numbers answer answer' r parts is given =
-    ap₂ (λ n l. call n l parts) (given.0 ∙ is.counted) (given.1 ∙ ap (λ l. laid l answer) is.is)
+pub answers : (numbers answer answer' : List ℕ) (r : ℕ) (parts : List (List ℕ)) → (r ≡ length numbers) × (answer' ≡ laid numbers answer) → call r answer' parts ≡ answered numbers answer parts
+answers numbers answer answer' r parts given = ap₂ (λ n l. call n l parts) given.0 given.1
 
 -- ---- solving
 
-module _ (h e o t cells : List ℕ) (r : Ruled) (t' scratch : List ℕ) (solved : solve_of h e o t (length cells / 4) ≡ some (given_by r t' scratch)) where
+module _ (h e o t cells : List ℕ) (r : Result Ruling Refusal) (t' scratch : List ℕ) (solved : solve_of h e o t (length cells / 4) ≡ some (given_by r t' scratch)) where
   -- the strikes fit into the cells and the scratch
   pub strikes-fit : (4 * recorded r ≤ 16384) × (4 * recorded r ≤ length cells)
   strikes-fit =

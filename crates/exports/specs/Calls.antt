@@ -1,6 +1,6 @@
 -- What a call of the C interface returns and leaves behind: the numbers of its answer (meaning's specs/Answers) over the front of the answer's cells, how many they are, and every other cell that was lent to be changed.
 -- Assumes nothing.
-use Rattle.std.specs.Prelude.{ℕ, ◌/◌, ◌≤◌, ◌≡◌, true, false, List, [], ◌∷◌, length, take, leb}
+use Rattle.std.specs.Prelude.{ℕ, ◌/◌, ◌≤◌, ◌≡◌, true, false, List, [], ◌∷◌, length, leb}
 use Rattle.std.proofs.Math.Option.{Option, none, some}
 use Rattle.meaning.specs.Answers.{reading_numbers, writing_numbers, receipt_numbers, tested_numbers, ruled_numbers}
 use Rattle.tables.specs.Cells.{laid}
@@ -10,7 +10,6 @@ use Rattle.placement_writer.specs.Writing.{Writes, writing_of}
 use Rattle.stability.specs.Test.{test_of}
 use Rattle.strikes.specs.Cells.{cells_of}
 use Rattle.solver.specs.Answer.{Given, solve_of}
-use Rattle.exports.specs.declared.Numbers.{Numbers}
 
 -- the number that is returned, the answer's cells, and the other parts lent to be changed, in the order of the parameters
 pub record Call : Type 0 where
@@ -57,14 +56,3 @@ after_solving (some g) c a = some (answered (ruled_numbers g.answer) a (g.table 
 -- cells have room for a strike in each four (that there always is a ruling is proved)
 unfoldable pub solve_call : List ℕ → List ℕ → List ℕ → List ℕ → List ℕ → List ℕ → Option Call
 solve_call h e o t c a = in_eight a (some (call 0 a (t ∷ c ∷ []))) (after_solving (solve_of h e o t (length c / 4)) c a)
-
--- ---- the numbers of an answer on their way to its cells
-
-abbrev pub numbers_in : Numbers → List ℕ
-numbers_in x = take x.count x.cells
-
--- x holds these numbers
-pub record Numbered (x : Numbers) (numbers : List ℕ) : Type 0 where
-  pub few : x.count ≤ 6
-  pub counted : x.count ≡ length numbers
-  pub is : numbers_in x ≡ numbers

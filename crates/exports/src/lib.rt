@@ -2,149 +2,124 @@
 // each function returns how many they are. With fewer than 8 cells it returns 0 and changes nothing.
 #![tactic(auto)]
 
-ghost use Rattle.std.specs.Prelude.{◌≡◌, [], ◌∷◌, ◌≤◌, length};
+ghost use Rattle.std.specs.Prelude.{◌≡◌, ℕ, List, [], ◌∷◌, ◌≤◌, length};
 ghost use Rattle.std.proofs.Math.Option.{some};
-ghost use Rattle.meaning.specs.Answers.{refusal_numbers, reading_numbers, writing_numbers, receipt_numbers, tested_numbers, ruling_numbers, ruled_numbers};
+ghost use Rattle.meaning.specs.Answers.{refusal_numbers, reading_numbers, writing_numbers, receipt_numbers, tested_numbers, ruled_numbers};
 ghost use Rattle.tables.specs.Cells.{laid};
-ghost use Rattle.exports.specs.Calls.{call, read_call, write_call, receipt_call, test_call, solve_call, numbers_in, Numbered};
+ghost use Rattle.exports.specs.Calls.{call, read_call, write_call, receipt_call, test_call, solve_call};
 
-use meaning::{Ending, Reading, Receipt, Refusal, Ruled, Ruling, Tested, Writing};
+use meaning::{Ending, Receipt, Refusal, Ruling, Tested};
 
-// The numbers of an answer: the first `count` of the cells.
-#[derive(Clone, Copy)]
-struct Numbers {
-    cells: [u64; 6],
-    count: usize,
+// What can be given back as numbers.
+trait Answer {
+    ghost numbers: { Self → List ℕ };
+    // The numbers over the front of an answer's cells: how many they are.
+    fn lay(self, answer: &mut [u64]) -> usize
+        requires { 8 ≤ length answer.old }
+        ensures { (result ≡ length (numbers self)) × (answer.new ≡ laid (numbers self) answer.old) };
+}
+
+impl Answer for Result<(), Refusal> {
+    ghost numbers = { reading_numbers };
+
+    // What reading a placement answers.
+    #[tactic(auto, unfolding(meaning::specs::Answers::reading_numbers))]
+    fn lay(self, answer: &mut [u64]) -> usize {
+        match self {
+            Ok(()) => lay(answer, &[0]),
+            Err(r) => lay_refusal(answer, 1, r),
+        }
+    }
+}
+
+impl Answer for Result<usize, Refusal> {
+    ghost numbers = { writing_numbers };
+
+    // What writing answers.
+    #[tactic(auto, unfolding(meaning::specs::Answers::writing_numbers))]
+    fn lay(self, answer: &mut [u64]) -> usize {
+        match self {
+            Ok(k) => lay(answer, &[0, k as u64]),
+            Err(r) => lay_refusal(answer, 1, r),
+        }
+    }
+}
+
+impl Answer for Result<Receipt, Refusal> {
+    ghost numbers = { receipt_numbers };
+
+    // Whether a trainee's list was received.
+    #[tactic(auto, unfolding(meaning::specs::Answers::receipt_numbers))]
+    fn lay(self, answer: &mut [u64]) -> usize {
+        match self {
+            Ok(Receipt::Received) => lay(answer, &[0]),
+            Ok(Receipt::NotReceived) => lay(answer, &[1]),
+            Ok(Receipt::OutOfRange) => lay(answer, &[2]),
+            Err(r) => lay_refusal(answer, 3, r),
+        }
+    }
+}
+
+impl Answer for Result<Tested, Refusal> {
+    ghost numbers = { tested_numbers };
+
+    // What the stability test answers.
+    #[tactic(auto, unfolding(meaning::specs::Answers::tested_numbers))]
+    fn lay(self, answer: &mut [u64]) -> usize {
+        match self {
+            Ok(Tested::Stable) => lay(answer, &[0]),
+            Ok(Tested::NotMutual(i)) => lay(answer, &[1, u64::from(i)]),
+            Ok(Tested::OverPosts(j)) => lay(answer, &[2, u64::from(j)]),
+            Ok(Tested::Blocking(i, j)) => lay(answer, &[3, u64::from(i), u64::from(j)]),
+            Err(r) => lay_refusal(answer, 4, r),
+        }
+    }
+}
+
+impl Answer for Result<Ruling, Refusal> {
+    ghost numbers = { ruled_numbers };
+
+    // What solving answers: n, the number of strikes, and the ending.
+    #[tactic(auto, unfolding(meaning::specs::Answers::ruled_numbers, meaning::specs::Answers::ruling_numbers, meaning::specs::Answers::ending_numbers))]
+    fn lay(self, answer: &mut [u64]) -> usize {
+        match self {
+            Ok(ruling) => {
+                let n = u64::from(ruling.trainees);
+                let s = u64::from(ruling.strikes);
+                match ruling.ending {
+                    Ending::Placed => lay(answer, &[0, n, s, 0]),
+                    Ending::NoneHeld(i, j) => lay(
+                        answer,
+                        &[0, n, s, 1, u64::from(i), u64::from(j)],
+                    ),
+                    Ending::NoneRoom(i, j) => lay(
+                        answer,
+                        &[0, n, s, 2, u64::from(i), u64::from(j)],
+                    ),
+                }
+            }
+            Err(r) => lay_refusal(answer, 1, r),
+        }
+    }
+}
+
+// Some numbers over the front of an answer's cells: how many they are.
+#[tactic(auto, unfolding(tables::specs::Cells::laid))]
+fn lay(answer: &mut [u64], numbers: &[u64]) -> usize
+    requires { length numbers.now ≤ length answer.old }
+    ensures { (result ≡ length numbers.now) × (answer.new ≡ laid numbers.now answer.old) }
+{
+    answer[..numbers.len()].copy_from_slice(numbers);
+    numbers.len()
 }
 
 // A refusal, which is the case of this number of its answer.
-fn numbers_of_refusal(case: u64, r: Refusal) -> Numbers
-    ensures { Numbered result (case ∷ refusal_numbers r) }
+#[tactic(auto, unfolding(meaning::specs::Answers::refusal_numbers))]
+fn lay_refusal(answer: &mut [u64], case: u64, r: Refusal) -> usize
+    requires { 8 ≤ length answer.old }
+    ensures { (result ≡ length (case ∷ refusal_numbers r)) × (answer.new ≡ laid (case ∷ refusal_numbers r) answer.old) }
 {
-    Numbers {
-        cells: [case, r.number as u64, r.line as u64, 0, 0, 0],
-        count: 3,
-    }
-}
-
-// What reading a placement answers.
-fn numbers_of_reading(r: Reading) -> Numbers
-    ensures { Numbered result (reading_numbers r) }
-{
-    match r {
-        Reading::Taken => Numbers {
-            cells: [0, 0, 0, 0, 0, 0],
-            count: 1,
-        },
-        Reading::Refused(x) => numbers_of_refusal(1, x),
-    }
-}
-
-// What writing answers.
-fn numbers_of_writing(r: Writing) -> Numbers
-    ensures { Numbered result (writing_numbers r) }
-{
-    match r {
-        Writing::Written(k) => Numbers {
-            cells: [0, k as u64, 0, 0, 0, 0],
-            count: 2,
-        },
-        Writing::Refused(x) => numbers_of_refusal(1, x),
-    }
-}
-
-// Whether a trainee's list was received.
-fn numbers_of_receipt(r: Receipt) -> Numbers
-    ensures { Numbered result (receipt_numbers r) }
-{
-    match r {
-        Receipt::Received => Numbers {
-            cells: [0, 0, 0, 0, 0, 0],
-            count: 1,
-        },
-        Receipt::NotReceived => Numbers {
-            cells: [1, 0, 0, 0, 0, 0],
-            count: 1,
-        },
-        Receipt::OutOfRange => Numbers {
-            cells: [2, 0, 0, 0, 0, 0],
-            count: 1,
-        },
-        Receipt::Refused(x) => numbers_of_refusal(3, x),
-    }
-}
-
-// What the stability test answers.
-fn numbers_of_tested(r: Tested) -> Numbers
-    ensures { Numbered result (tested_numbers r) }
-{
-    match r {
-        Tested::Stable => Numbers {
-            cells: [0, 0, 0, 0, 0, 0],
-            count: 1,
-        },
-        Tested::NotMutual(i) => Numbers {
-            cells: [1, i as u64, 0, 0, 0, 0],
-            count: 2,
-        },
-        Tested::OverPosts(j) => Numbers {
-            cells: [2, j as u64, 0, 0, 0, 0],
-            count: 2,
-        },
-        Tested::Blocking(i, j) => Numbers {
-            cells: [3, i as u64, j as u64, 0, 0, 0],
-            count: 3,
-        },
-        Tested::Refused(x) => numbers_of_refusal(4, x),
-    }
-}
-
-// A ruling: n, the number of strikes, and the ending.
-fn numbers_of_ruling(r: Ruling) -> Numbers
-    ensures { Numbered result (0 ∷ ruling_numbers r) }
-{
-    let n = r.trainees as u64;
-    let s = r.strikes as u64;
-    let e = r.ending;
-    match e {
-        Ending::Placed => Numbers {
-            cells: [0, n, s, 0, 0, 0],
-            count: 4,
-        },
-        Ending::NoneHeld(i, j) => Numbers {
-            cells: [0, n, s, 1, i as u64, j as u64],
-            count: 6,
-        },
-        Ending::NoneRoom(i, j) => Numbers {
-            cells: [0, n, s, 2, i as u64, j as u64],
-            count: 6,
-        },
-    }
-}
-
-// What solving answers.
-fn numbers_of_ruled(r: Ruled) -> Numbers
-    ensures { Numbered result (ruled_numbers r) }
-{
-    match r {
-        Ruled::Ruling(x) => numbers_of_ruling(x),
-        Ruled::Refused(x) => numbers_of_refusal(1, x),
-    }
-}
-
-// The numbers over the front of an answer's cells: how many they are.
-fn lay(answer: &mut [u64], x: Numbers) -> usize
-    requires { (x.count ≤ 6) × (8 ≤ length answer.old) }
-    ensures { (result ≡ x.count) × (answer.new ≡ laid (numbers_in x) answer.old) }
-{
-    let count = x.count;
-    let cells = x.cells;
-    let mut i: usize = 0;
-    while i < count {
-        answer[i] = cells[i];
-        i += 1;
-    }
-    count
+    lay(answer, &[case, r.fault as u64, u64::from(r.line)])
 }
 
 // Reads a placement text into the lent tables.
@@ -161,7 +136,7 @@ pub fn frostcrumb_read_placement(
         return 0;
     }
     let r = frostcrumb::read_placement(text, heads, entries, orders);
-    lay(answer, numbers_of_reading(r))
+    r.lay(answer)
 }
 
 // Writes the text of the placement that the lent tables hold over the front of the output.
@@ -178,7 +153,7 @@ pub fn frostcrumb_write_placement(
         return 0;
     }
     let r = frostcrumb::write_placement(heads, entries, orders, out);
-    lay(answer, numbers_of_writing(r))
+    r.lay(answer)
 }
 
 // Whether a trainee's list was received.
@@ -195,7 +170,7 @@ pub fn frostcrumb_trainee_receipt(
         return 0;
     }
     let r = frostcrumb::trainee_receipt(heads, entries, orders, trainee);
-    lay(answer, numbers_of_receipt(r))
+    r.lay(answer)
 }
 
 // Tests the stability of a table of n trainees.
@@ -213,7 +188,7 @@ pub fn frostcrumb_test_table(
         return 0;
     }
     let r = frostcrumb::test_table(heads, entries, orders, n, table);
-    lay(answer, numbers_of_tested(r))
+    r.lay(answer)
 }
 
 // Solves a placement: the ruling's table over the front of the table, and its strikes over the front of the cells, four to a strike.
@@ -235,5 +210,5 @@ pub fn frostcrumb_solve(
     let r = solver::solve_lent(heads, entries, orders, room, table, &mut scratch);
     let count = strikes::recorded_by(r);
     strikes::lay_strikes(&scratch, count, cells);
-    lay(answer, numbers_of_ruled(r))
+    r.lay(answer)
 }

@@ -11,8 +11,10 @@ use Rattle.meaning.specs.Placement.{Placement}
 use Rattle.meaning.specs.Full.{Full, Received, whole, lacking, and_then, full}
 use Rattle.meaning.specs.Solver.{ruled}
 use Rattle.meaning.specs.declared.Strike.{Strike}
-use Rattle.meaning.specs.declared.Ruled.{Ruled}
+use Rattle.std.specs.Prelude.{Result, Ok, Err}
+use Rattle.meaning.specs.declared.Refusal.{Refusal}
 use Rattle.meaning.specs.declared.Ruling.{Ruling}
+use Rattle.meaning.specs.Answers.{refusal}
 use Rattle.meaning.proofs.Booleans.{some-own}
 use Rattle.meaning.proofs.Demands.{solver-keeps}
 use Rattle.tables.specs.Decode.{placement_of}
@@ -22,11 +24,11 @@ use Rattle.rulings.specs.Held.{roomy}
 use Rattle.frostcrumb.specs.Solve.{Left, leaving_if, solving}
 use Rattle.frostcrumb.specs.Keeps.{SolveKeeps}
 
-module _ (h e o t : List ℕ) (log : List Strike) (l : Left) (r : Ruling) (rules : l.answer ≡ Ruled.Ruling r) where
+module _ (h e o t : List ℕ) (log : List Strike) (l : Left) (r : Ruling) (rules : l.answer ≡ Ok r) where
   -- a refusal is no ruling
   not-refused : (number line : ℕ) → leaving_if (some (refusing number line t)) log ≡ some l → SolveKeeps h e o t log l r
   unfolding leaving_if
-  not-refused number line q = absurd (let x : l.answer ≡ Ruled.Refused (record { number = number; line = line }) = ap (λ (y : Left). y.answer) (sym (some-own q)) in let z : ◌≡◌ {A = ℕ} 0 1 = cc in omega arith)
+  not-refused number line q = absurd (let x : l.answer ≡ Err (refusal number line) = ap (λ (y : Left). y.answer) (sym (some-own q)) in let z : ◌≡◌ {A = ℕ} 0 1 = cc in omega arith)
 
   -- the ruling of a placement with everything received
   whole-keeps : (p : Placement) (F : Full) → placement_of h e o ≡ some p → full p ≡ whole F → leaving_if (solve_if_full (ruled p) t) log ≡ some l → SolveKeeps h e o t log l r
@@ -47,7 +49,7 @@ module _ (h e o t : List ℕ) (log : List Strike) (l : Left) (r : Ruling) (rules
         keeps = k2.1;
       }
     where
-      ruling-own : {a b : Ruling} → Ruled.Ruling a ≡ Ruled.Ruling b → a ≡ b
+      ruling-own : {a b : Ruling} → ◌≡◌ {A = Result Ruling Refusal} (Ok a) (Ok b) → a ≡ b
       ruling-own q = cc
 
   pub solve-keeps : solving h e o t log ≡ some l → SolveKeeps h e o t log l r

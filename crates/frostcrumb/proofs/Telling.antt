@@ -7,14 +7,16 @@ use mathlib.Core.List.{List}
 use native.Mathlib.Omega.{arith}
 use lib.ListN.{length}
 use Rattle.meaning.specs.declared.Strike.{Strike}
-use Rattle.meaning.specs.declared.Ruled.{Ruled}
+use Rattle.std.specs.Prelude.{Result, Ok, Err}
+use Rattle.meaning.specs.declared.Refusal.{Refusal}
+use Rattle.meaning.specs.declared.Ruling.{Ruling}
 use Rattle.strikes.specs.Cells.{filled, recorded}
 use Rattle.strikes.proofs.Encoding.{count-strikes}
 use Rattle.solver.specs.Answer.{solve_of, given_by}
 use Rattle.solver.proofs.Fits.{given-fits}
 use Rattle.frostcrumb.specs.Solve.{leaving_if, solving, left}
 
-module _ (h e o t : List ℕ) (log : List Strike) (r : Ruled) (t' cells : List ℕ) where
+module _ (h e o t : List ℕ) (log : List Strike) (r : Result Ruling Refusal) (t' cells : List ℕ) where
   -- the strikes fit into the record and stand in the cells
   pub solve-held : solve_of h e o t (length log) ≡ some (given_by r t' cells) → length cells ≡ 16384 → (recorded r ≤ length log) × (4 * recorded r ≤ length cells)
   solve-held q long =

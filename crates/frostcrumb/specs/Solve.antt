@@ -3,12 +3,14 @@
 use Rattle.std.specs.Prelude.{ℕ, List, ◌++◌, length, drop}
 use Rattle.std.proofs.Math.Option.{Option, none, some}
 use Rattle.meaning.specs.declared.Strike.{Strike}
-use Rattle.meaning.specs.declared.Ruled.{Ruled}
+use Rattle.std.specs.Prelude.{Result, Ok, Err}
+use Rattle.meaning.specs.declared.Refusal.{Refusal}
+use Rattle.meaning.specs.declared.Ruling.{Ruling}
 use Rattle.solver.specs.Answer.{Given, solve_of}
 
 -- the answer, and every lent cell as it is left
 pub record Left : Type 0 where
-  pub answer : Ruled
+  pub answer : Result Ruling Refusal
   pub table : List ℕ
   pub log : List Strike
 
@@ -25,5 +27,5 @@ unfoldable pub solving : List ℕ → List ℕ → List ℕ → List ℕ → Lis
 solving h e o t log = leaving_if (solve_of h e o t (length log)) log
 
 -- a call's answer, table and record, side by side
-abbrev pub left : Ruled → List ℕ → List Strike → Left
+abbrev pub left : Result Ruling Refusal → List ℕ → List Strike → Left
 left r t log = record { answer = r; table = t; log = log }

@@ -13,10 +13,11 @@ use borrow.Author.Tests.{le-leb}
 use Rattle.meaning.specs.Numbers.{◌&◌}
 use Rattle.meaning.proofs.Numbers.{order}
 use Rattle.fields.specs.Reader.{Step, got, refusal as refusal-at}
-use Rattle.meaning.specs.Answers.{SHORT_PART, LONG_TEXT, refusal}
+use Rattle.meaning.specs.Answers.{SHORT_PART, LONG_TEXT, fault_number, fault_of, refusal}
+use Rattle.meaning.proofs.Answers.{number-again}
 use Rattle.meaning.specs.Placement.{Placement, Legal}
 use Rattle.meaning.specs.declared.Refusal.{Refusal}
-use Rattle.meaning.specs.declared.Reading.{Reading}
+use Rattle.std.specs.Prelude.{Result, Ok, Err}
 use Rattle.meaning.proofs.Booleans.{true-or-false}
 use Rattle.tables.specs.Cells.{head_cells, entry_cells, order_cells, laid}
 use Rattle.tables.specs.Decode.{placement_of}
@@ -36,15 +37,15 @@ use Rattle.placement_reader.proofs.LineLaw.{LegalAbove, legal-above}
 
 -- ---- a refusal changes no lent cell
 
-reading-refused : (r : Read) (h e o : List ℕ) {x : Refusal} → (reading r h e o).answer ≡ Reading.Refused x → reading r h e o ≡ reads (Reading.Refused x) h e o
+reading-refused : (r : Read) (h e o : List ℕ) {x : Refusal} → (reading r h e o).answer ≡ Err x → reading r h e o ≡ reads (Err x) h e o
 unfolding reading
 reading-refused (taken p) h e o k = let z : ◌≡◌ {A = ℕ} 0 1 = cc in absurd (omega arith)
 reading-refused (refused a b c) h e o k = ap (λ z. reads z h e o) k
 
-pub refused-unchanged : (s h e o : List ℕ) {x : Refusal} → (reading_of s h e o).answer ≡ Reading.Refused x → reading_of s h e o ≡ reads (Reading.Refused x) h e o
+pub refused-unchanged : (s h e o : List ℕ) {x : Refusal} → (reading_of s h e o).answer ≡ Err x → reading_of s h e o ≡ reads (Err x) h e o
 refused-unchanged s h e o {x} k = go (true-or-false (sized h e o))
   where
-    go : (sized h e o ≡ true) ⊎ (sized h e o ≡ false) → reading_of s h e o ≡ reads (Reading.Refused x) h e o
+    go : (sized h e o ≡ true) ⊎ (sized h e o ≡ false) → reading_of s h e o ≡ reads (Err x) h e o
     go (inl t) =
         let q = answer-read s h e o t in
         sym q ∙ reading-refused (read_text s) h e o (ap (λ z. z.answer) q ∙ k)
@@ -55,7 +56,7 @@ refused-unchanged s h e o {x} k = go (true-or-false (sized h e o))
 -- ---- a legal placement's text is read into its cells
 
 pub legal-read : (p : Placement) → Legal p → (h e o : List ℕ) → sized h e o ≡ true
-    → reading_of (text_of p) h e o ≡ reads Reading.Taken (laid (head_cells p) h) (laid (entry_cells p) e) (laid (order_cells p) o)
+    → reading_of (text_of p) h e o ≡ reads (Ok tt) (laid (head_cells p) h) (laid (entry_cells p) e) (laid (order_cells p) o)
 unfolding reading
 legal-read p g h e o t = sym (answer-read (text_of p) h e o t) ∙ ap (λ r. reading r h e o) (read-there p g)
 
@@ -66,17 +67,17 @@ pub record TakenAs (s h e o : List ℕ) (R : Reads) : Type 0 where
   pub legal : Legal it
   pub text : text_of it ≡ s
   pub full-sized : sized h e o ≡ true
-  pub is : R ≡ reads Reading.Taken (laid (head_cells it) h) (laid (entry_cells it) e) (laid (order_cells it) o)
+  pub is : R ≡ reads (Ok tt) (laid (head_cells it) h) (laid (entry_cells it) e) (laid (order_cells it) o)
   pub holds : placement_of R.heads R.entries R.orders ≡ some it
 
-reading-taken : (s h e o : List ℕ) (r : Read) → read_text s ≡ r → sized h e o ≡ true → (reading r h e o).answer ≡ Reading.Taken → TakenAs s h e o (reading r h e o)
+reading-taken : (s h e o : List ℕ) (r : Read) → read_text s ≡ r → sized h e o ≡ true → (reading r h e o).answer ≡ Ok tt → TakenAs s h e o (reading r h e o)
 unfolding reading
 reading-taken s h e o (taken p) q t k =
     let b = read_back s p q in
     record { it = p; legal = b.0; text = b.1; full-sized = t; is = refl; holds = laid-there p b.0 h e o }
 reading-taken s h e o (refused a b c) q t k = let z : ◌≡◌ {A = ℕ} 0 1 = cc in absurd (omega arith)
 
-pub taken_as : (s h e o : List ℕ) → (reading_of s h e o).answer ≡ Reading.Taken → TakenAs s h e o (reading_of s h e o)
+pub taken_as : (s h e o : List ℕ) → (reading_of s h e o).answer ≡ Ok tt → TakenAs s h e o (reading_of s h e o)
 taken_as s h e o k = go (true-or-false (sized h e o))
   where
     go : (sized h e o ≡ true) ⊎ (sized h e o ≡ false) → TakenAs s h e o (reading_of s h e o)
@@ -85,7 +86,7 @@ taken_as s h e o k = go (true-or-false (sized h e o))
         subst (TakenAs s h e o) q (reading-taken s h e o (read_text s) refl t (ap (λ z. z.answer) q ∙ k))
     go (inr f) =
         let q = answer-short s h e o f in
-        let r : Reading.Refused (refusal SHORT_PART 0) ≡ Reading.Taken = ap (λ z. z.answer) q ∙ k in
+        let r : Err (refusal SHORT_PART 0) ≡ Ok tt = ap (λ z. z.answer) q ∙ k in
         let z : ◌≡◌ {A = ℕ} 0 1 = cc in
         absurd (omega arith)
 
@@ -109,9 +110,9 @@ taken-sized {s} {h} {e} {o} {R} w =
 
 -- ---- numbers 1 and 2, exactly
 
-abbrev pub number_given : Reading → ℕ
-number_given Reading.Taken = 0
-number_given (Reading.Refused r) = r.number
+abbrev pub number_given : Result (Unit {0}) Refusal → ℕ
+number_given (Ok _) = 0
+number_given (Err r) = fault_number r.fault
 
 -- a text of at most 65,536 bytes is taken or refused 3 to 6
 text-number : (s : List ℕ) (h e o : List ℕ) → length s ≤ 65536 → (number_given (reading (read_text s) h e o).answer ≡ 0) ⊎ (3 ≤ number_given (reading (read_text s) h e o).answer)
@@ -130,7 +131,7 @@ module _ (s h e o : List ℕ) where
   read_number : sized h e o ≡ true → number_given (reading_of s h e o).answer ≡ number_given (reading (read_text s) h e o).answer
   read_number t = ap (λ z. number_given z.answer) (sym (answer-read s h e o t))
 
-  pub short-when : sized h e o ≡ false → reading_of s h e o ≡ reads (Reading.Refused (refusal SHORT_PART 0)) h e o
+  pub short-when : sized h e o ≡ false → reading_of s h e o ≡ reads (Err (refusal SHORT_PART 0)) h e o
   short-when f = sym (answer-short s h e o f)
 
   pub short-means : number_given (reading_of s h e o).answer ≡ 1 → sized h e o ≡ false
@@ -141,7 +142,7 @@ module _ (s h e o : List ℕ) where
       go (inl t) (inr l) = let z = read_number t ∙ long-number s h e o l in absurd (omega arith)
       go (inl t) (inl l) = let z = read_number t in absurd (⊎_elim (λ q. omega arith) (λ q. omega arith) (text-number s h e o l))
 
-  pub long-when : sized h e o ≡ true → 65536 < length s → reading_of s h e o ≡ reads (Reading.Refused (refusal LONG_TEXT 0)) h e o
+  pub long-when : sized h e o ≡ true → 65536 < length s → reading_of s h e o ≡ reads (Err (refusal LONG_TEXT 0)) h e o
   long-when t l = sym (answer-long s h e o t l)
 
   pub long-means : number_given (reading_of s h e o).answer ≡ 2 → (sized h e o ≡ true) × (65536 < length s)
@@ -159,11 +160,11 @@ pub record AtLine (s : List ℕ) (l : ℕ) : Type 0 where
   pub none-agrees : (p : Placement) → Legal p → Agree l s (text_of p) → ⊥
 
 -- refused 3 to 6 at line l: some legal text agrees with this one on lines 1 to l - 1, and none does on lines 1 to l
-pub line-law : (s h e o : List ℕ) (x l : ℕ) → 3 ≤ x → (reading_of s h e o).answer ≡ Reading.Refused (refusal x l) → AtLine s l
+pub line-law : (s h e o : List ℕ) (x l : ℕ) → 3 ≤ x → (reading_of s h e o).answer ≡ Err (refusal x l) → AtLine s l
 unfolding reading
 line-law s h e o x l high k = go (true-or-false (sized h e o)) (order (length s) 65536)
   where
-    from : length s ≤ 65536 → (r : Read) → read_text s ≡ r → (reading r h e o).answer ≡ Reading.Refused (refusal x l) → AtLine s l
+    from : length s ≤ 65536 → (r : Read) → read_text s ≡ r → (reading r h e o).answer ≡ Err (refusal x l) → AtLine s l
     from w (taken p) d q = let z : ◌≡◌ {A = ℕ} 0 1 = cc in absurd (omega arith)
     from w (refused a b c) d q =
         let m : refusal a b ≡ refusal x l = cc in

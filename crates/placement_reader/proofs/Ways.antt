@@ -8,7 +8,7 @@ use native.Mathlib.Omega.{arith}
 use lib.ListN.{length, take}
 use Rattle.meaning.specs.Answers.{SHORT_PART, LONG_TEXT, refusal}
 use Rattle.meaning.specs.Placement.{Placement}
-use Rattle.meaning.specs.declared.Reading.{Reading}
+use Rattle.std.specs.Prelude.{Ok, Err}
 use Rattle.tables.specs.Cells.{head_cells, entry_cells, order_cells, laid}
 use Rattle.tables.specs.Answers.{sized}
 use Rattle.tables.proofs.Round.{cells_fit}
@@ -21,7 +21,7 @@ use Rattle.placement_reader.proofs.Fronts.{front}
 
 -- ---- a text that is not too long, with tables of the full sizes
 
-pub answer-refused : (s h e o : List ℕ) {x l : ℕ} → Somewhere s x l → reads (Reading.Refused (refusal x l)) h e o ≡ reading (read_text s) h e o
+pub answer-refused : (s h e o : List ℕ) {x l : ℕ} → Somewhere s x l → reads (Err (refusal x l)) h e o ≡ reading (read_text s) h e o
 unfolding reading
 answer-refused s h e o w = sym (ap (λ r. reading r h e o) w.goes)
 
@@ -38,7 +38,7 @@ module _ {s h h' t t' o o' : List ℕ} {a b c : ℕ} (w : All s h h' t t' o o' a
       record { heads = omega (arith, f.heads, w.heads_used); entries = omega (arith, f.entries, w.entries_used); orders = omega (arith, f.orders, w.orders_used) }
 
   pub answer-taken : (x y z : List ℕ) → length h ≡ 707 → length t ≡ 8192 → length o ≡ 3073
-      → reads Reading.Taken (laid (take a h') x) (laid (take b t') y) (laid (take c o') z) ≡ reading (read_text s) x y z
+      → reads (Ok tt) (laid (take a h') x) (laid (take b t') y) (laid (take c o') z) ≡ reading (read_text s) x y z
   unfolding reading
   answer-taken x y z lh lt lo =
       let p : Placement = w.it in
@@ -46,12 +46,12 @@ module _ {s h h' t t' o o' : List ℕ} {a b c : ℕ} (w : All s h h' t t' o o' a
       let hs : take a h' ≡ head_cells p = ap (take a) w.heads ∙ front h (head_cells p) a (omega (arith, f.heads)) w.heads_used in
       let es : take b t' ≡ entry_cells p = ap (take b) w.entries ∙ front t (entry_cells p) b (omega (arith, f.entries)) w.entries_used in
       let os : take c o' ≡ order_cells p = ap (take c) w.orders ∙ front o (order_cells p) c (omega (arith, f.orders)) w.orders_used in
-      (λ i. reads Reading.Taken (laid (hs i) x) (laid (es i) y) (laid (os i) z)) ∙ sym (ap (λ r. reading r x y z) w.goes)
+      (λ i. reads (Ok tt) (laid (hs i) x) (laid (es i) y) (laid (os i) z)) ∙ sym (ap (λ r. reading r x y z) w.goes)
 
 -- ---- any text and any tables
 
 module _ (s h e o : List ℕ) where
-  pub answer-short : sized h e o ≡ false → reads (Reading.Refused (refusal SHORT_PART 0)) h e o ≡ reading_of s h e o
+  pub answer-short : sized h e o ≡ false → reads (Err (refusal SHORT_PART 0)) h e o ≡ reading_of s h e o
   unfolding reading_of
   answer-short f = sym (rw (f, reading_of))
 
@@ -59,6 +59,6 @@ module _ (s h e o : List ℕ) where
   unfolding reading_of
   answer-read f = sym (rw (f, reading_of))
 
-  pub answer-long : sized h e o ≡ true → 65536 < length s → reads (Reading.Refused (refusal LONG_TEXT 0)) h e o ≡ reading_of s h e o
+  pub answer-long : sized h e o ≡ true → 65536 < length s → reads (Err (refusal LONG_TEXT 0)) h e o ≡ reading_of s h e o
   unfolding reading
   answer-long f l = sym (ap (λ r. reading r h e o) (read-long s l)) ∙ answer-read f

@@ -15,7 +15,7 @@ ghost use Rattle.placement_text.specs.Writer.{write_received, write_entries, wri
 ghost use Rattle.placement_writer.specs.Held.{number_in, list_in, depot_in, kind_in, order_in, run, ListRoom};
 ghost use Rattle.placement_writer.specs.Writing.{writes, writing_of};
 
-use meaning::{Refusal, Writing};
+use meaning::{Fault, Refusal};
 
 // The entries of a list.
 fn put_entries(list: &[u16], out: &mut [u8], at: usize) -> usize
@@ -186,17 +186,25 @@ fn put_text(heads: &[u16], entries: &[u16], orders: &[u16], out: &mut [u8]) -> u
 
 // Writes the placement that the tables hold: its text over the front of the output, and how long it is; or refused, with every lent cell as it was
 // (`refused-unchanged`, `short-means`, `unread-means`, `unread-when`, `read-then-written`, `written-then-read`, proofs/Promises).
-pub fn write_placement(heads: &[u16], entries: &[u16], orders: &[u16], out: &mut [u8]) -> Writing
+pub fn write_placement(
+    heads: &[u16],
+    entries: &[u16],
+    orders: &[u16],
+    out: &mut [u8],
+) -> Result<usize, Refusal>
     ensures { writes result out.new ≡ writing_of heads.now entries.now orders.now out.old }
 {
-    if !tables::sizes_ok(heads, entries, orders) {
-        return Writing::Refused(Refusal { number: 1, line: 0 });
-    }
-    if out.len() < 65536 {
-        return Writing::Refused(Refusal { number: 1, line: 0 });
+    if !tables::sizes_ok(heads, entries, orders) || out.len() < 65536 {
+        return Err(Refusal {
+            fault: Fault::ShortPart,
+            line: 0,
+        });
     }
     if !tables::used_cells_ok(heads, entries, orders) {
-        return Writing::Refused(Refusal { number: 8, line: 0 });
+        return Err(Refusal {
+            fault: Fault::NotRead,
+            line: 0,
+        });
     }
-    Writing::Written(put_text(heads, entries, orders, out))
+    Ok(put_text(heads, entries, orders, out))
 }

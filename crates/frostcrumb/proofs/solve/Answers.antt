@@ -9,12 +9,12 @@ use Rattle.frostcrumb.proofs.solve.Goals as goal
 pub fill_record-requires : goal.fill_record-requires
 fill_record-requires c =
     let a = c.args in
-    rw c.recorded_by-count.ensures
-    (solve-held a.heads.now a.entries.now a.orders.now a.table.now a.log.now c.solve_lent-r.result c.solve_lent-r.new.table c.solve_lent-r.new.cells c.solve_lent-r.ensures c.solve_lent-r.auto.cells)
+    rw c.recorded_by.ensures
+    (solve-held a.heads.now a.entries.now a.orders.now a.table.now a.log.now c.solve_lent-ruled.result c.solve_lent-ruled.new.table c.solve_lent-ruled.new.cells c.solve_lent-ruled.ensures c.solve_lent-ruled.auto.cells)
 
 pub returns : goal.returns
 returns c =
     let a = c.args in
-    let r = c.solve_lent-r in
+    let r = c.solve_lent-ruled in
     solve-tells a.heads.now a.entries.now a.orders.now a.table.now a.log.now r.result r.new.table r.new.cells r.ensures
-    ∙ ap (λ log. some (left r.result r.new.table log)) (sym (c.fill_record.ensures ∙ ap (filled r.new.cells a.log.now) c.recorded_by-count.ensures))
+    ∙ ap (λ log. some (left r.result r.new.table log)) (sym (c.fill_record.ensures ∙ ap (filled r.new.cells a.log.now) c.recorded_by.ensures))
