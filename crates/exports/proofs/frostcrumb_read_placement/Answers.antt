@@ -12,6 +12,6 @@ pub returns : goal.returns
 unfolding read_call
 returns c =
     let a = c.args in
-    answers _ _ a.answer.now _ _ _ c.numbers_of_reading.ensures c.lay.ensures
+    answers _ a.answer.now _ _ _ c.lay.ensures
     ∙ ap (λ x. after_reading x a.answer.now) c.read_placement-r.ensures
     ∙ enough a.answer.now _ _ c.if-answer-lt8.false

@@ -21,4 +21,4 @@ returns c =
     let a = c.args in
     sym (enough a.answer.now _ _ c.if-answer-lt8.false)
     ∙ solving a.heads.now a.entries.now a.orders.now a.table.now a.cells.now _ _ _ c.solve_lent-r.ensures a.answer.now _ _ _ _ c.recorded_by-count.ensures c.lay_strikes.ensures
-    (λ parts. answers _ _ a.answer.now _ _ parts c.numbers_of_ruled.ensures c.lay.ensures)
+    (λ parts. answers _ a.answer.now _ _ parts c.lay.ensures)

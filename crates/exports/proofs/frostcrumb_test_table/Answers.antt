@@ -14,6 +14,6 @@ pub returns : goal.returns
 unfolding test_call
 returns c =
     let a = c.args in
-    answers _ _ a.answer.now _ _ _ c.numbers_of_tested.ensures c.lay.ensures
+    answers _ a.answer.now _ _ _ c.lay.ensures
     ∙ ap (λ x. answered (tested_numbers x) a.answer.now []) c.test_table-r.ensures.answer
     ∙ enough a.answer.now _ _ c.if-answer-lt8.false

@@ -12,6 +12,6 @@ pub returns : goal.returns
 unfolding write_call
 returns c =
     let a = c.args in
-    answers _ _ a.answer.now _ _ _ c.numbers_of_writing.ensures c.lay.ensures
+    answers _ a.answer.now _ _ _ c.lay.ensures
     ∙ ap (λ x. after_writing x a.answer.now) c.write_placement-r.ensures
     ∙ enough a.answer.now _ _ c.if-answer-lt8.false
