@@ -30,7 +30,7 @@ use Rattle.tables.proofs.Receipts.{Sizes, sizes}
 use Rattle.tables.proofs.Views.{FullSeen, tables-seen}
 use Rattle.ranks.specs.View.{wishes_of, market_of}
 use Rattle.ranks.proofs.Held.{market-held, lists-held, full-tables}
-use Rattle.meaning.specs.declared.Tested.TheVariants.{Refused}
+use Rattle.std.specs.Prelude.{Ok, Err}
 
 -- ---- number 1
 
@@ -114,16 +114,16 @@ pub record ReadTables (h e o : List ℕ) (n : ℕ) (t : List ℕ) : Type 0 where
   pub by : test_of h e o n t ≡ test_if_full (full placement) (take n t)
 
 module _ (h e o : List ℕ) (n : ℕ) (t : List ℕ) where
-  pub test_short : long_enough h e o t ≡ false → Refused (refusal SHORT_PART 0) ≡ test_of h e o n t
+  pub test_short : long_enough h e o t ≡ false → Err (refusal SHORT_PART 0) ≡ test_of h e o n t
   unfolding test_of
   test_short u = rw (u, test_of)
 
   module _ (long : long_enough h e o t ≡ true) where
-    pub test-unread : read_with (placement_of h e o) n t ≡ false → Refused (refusal NOT_READ 0) ≡ test_of h e o n t
+    pub test-unread : read_with (placement_of h e o) n t ≡ false → Err (refusal NOT_READ 0) ≡ test_of h e o n t
     unfolding test_of test_if_read read_with
     test-unread u = rw (long, test_of) (go (placement_of h e o) u)
       where
-        go : (q : Option Placement) → read_with q n t ≡ false → Refused (refusal NOT_READ 0) ≡ test_if_read q n t
+        go : (q : Option Placement) → read_with q n t ≡ false → Err (refusal NOT_READ 0) ≡ test_if_read q n t
         go none u = refl
         go (some p) u = rw (u, test_if_read)
 
@@ -155,13 +155,13 @@ module _ (h e o : List ℕ) (n : ℕ) (t : List ℕ) (g : ReadTables h e o n t)
       let q = parts h e o g.placement g.held in
       gives e q.sides q.sides-of ∙ ap lacking_line (sym (full-sides h e o g.placement g.held))
 
-  pub test-lacking : (line ≡ 0 → ⊥) → Refused (refusal NOT_RECEIVED line) ≡ test_of h e o n t
+  pub test-lacking : (line ≡ 0 → ⊥) → Err (refusal NOT_RECEIVED line) ≡ test_of h e o n t
   unfolding test_if_full lacking_line
   test-lacking ne = go (full g.placement) line-is ∙ sym g.by
     where
-      go : (r : Received Full) → line ≡ lacking_line r → Refused (refusal NOT_RECEIVED line) ≡ test_if_full r (take n t)
+      go : (r : Received Full) → line ≡ lacking_line r → Err (refusal NOT_RECEIVED line) ≡ test_if_full r (take n t)
       go (whole F) e = absurd (ne e)
-      go (lacking l) e = ap (λ (k : ℕ). Refused (refusal NOT_RECEIVED k)) e
+      go (lacking l) e = ap (λ (k : ℕ). Err (refusal NOT_RECEIVED k)) e
 
   -- ---- the worker's tables
 
@@ -178,10 +178,10 @@ module _ (h e o : List ℕ) (n : ℕ) (t : List ℕ) (g : ReadTables h e o n t)
       cells = omega (arith, length-take k t, held-trainees h e o g.placement g.held, g.trainees, few-numbered h e o n t g);
     }
 
-    pub test-whole : (k : ℕ) → k ≡ n → test_by (market_of h e) (wishes_of h e) (table_of (take k t)) ≡ test_of h e o n t
+    pub test-whole : (k : ℕ) → k ≡ n → Ok (test_by (market_of h e) (wishes_of h e) (table_of (take k t))) ≡ test_of h e o n t
     unfolding test_if_full test
     test-whole k is =
         let m = sym (market-held h e its_full.value seen) in
         let l = sym (lists-held h e its_full.value seen) in
-        (λ x. test_by (m x) (l x) (table_of (take (is x) t)))
+        (λ x. Ok (test_by (m x) (l x) (table_of (take (is x) t))))
         ∙ sym (g.by ∙ ap (λ (r : Received Full). test_if_full r (take n t)) its_full.here)

@@ -13,7 +13,7 @@ ghost use Rattle.stability.specs.Test.{long_enough, read_depots, read_with, test
 ghost use Rattle.stability.specs.Keeps.{KeepsUnlessRefused};
 ghost use Rattle.stability.specs.Search.{found_of, rank_in, Counts, Worsts, places_above, takes_at, TestTables, PairTables, SearchTables};
 
-use meaning::{Refusal, Tested};
+use meaning::{Fault, Refusal, Tested};
 use ranks::Market;
 
 // Full tables, and a table with a cell for each of their trainees.
@@ -224,24 +224,33 @@ pub fn test_table<'a>(
     orders: &[u16],
     n: u16,
     table: &'a [u16],
-) -> Tested
+) -> Result<Tested, Refusal>
     ensures answer { result ≡ test_of heads.now entries.now orders.now n table.now }
     ensures truth { KeepsUnlessRefused heads.now entries.now orders.now n table.now result }
 {
     if !long_enough(heads, entries, orders, table) {
-        return Tested::Refused(Refusal { number: 1, line: 0 });
+        return Err(Refusal {
+            fault: Fault::ShortPart,
+            line: 0,
+        });
     }
     if !read_ok(heads, entries, orders, n, table) {
-        return Tested::Refused(Refusal { number: 8, line: 0 });
+        return Err(Refusal {
+            fault: Fault::NotRead,
+            line: 0,
+        });
     }
     let line = tables::first_missing_line(heads);
     if line != 0 {
-        return Tested::Refused(Refusal { number: 7, line });
+        return Err(Refusal {
+            fault: Fault::NotReceived,
+            line,
+        });
     }
     let end = usize::from(n);
     let trial = Trial {
         market: Market { heads, entries },
         table: &table[..end],
     };
-    trial.tested()
+    Ok(trial.tested())
 }

@@ -1,6 +1,7 @@
 -- The refusals are tried in the definition's order; past them the tables are full, and their market is the placement's.
-use mathlib.Core.Path.{sym, ◌∙◌}
+use mathlib.Core.Path.{sym, ap, ◌∙◌}
 use native.Mathlib.Omega.{arith}
+use Rattle.std.specs.Prelude.{Ok}
 use Rattle.std.proofs.lemmas.List.{length-take-le}
 use Rattle.stability.proofs.Answer.{promised}
 use Rattle.stability.proofs.Guards.{few-numbered, long-parts, test_short, test-unread, read-tables, head-room, test-lacking, test-tables, test-whole}
@@ -43,4 +44,4 @@ pub returns : goal.returns
 returns c = let a = c.args in
     let long = sym c.long_enough.ensures ∙ c.if-not-long_enough.false in
     let g = read-tables a.heads.now a.entries.now a.orders.now a.n a.table.now long (sym c.read_ok.ensures ∙ c.if-not-read_ok.false) in
-    let p = promised _ _ _ _ _ _ (c.tested.ensures ∙ test-whole _ _ _ _ _ g _ c.first_missing_line-line.ensures c.if-line-ne0.false c.from-end.result c.from-end.ensures) in record { answer = p.0; truth = p.1 }
+    let p = promised _ _ _ _ _ _ (ap Ok c.tested.ensures ∙ test-whole _ _ _ _ _ g _ c.first_missing_line-line.ensures c.if-line-ne0.false c.from-end.result c.from-end.ensures) in record { answer = p.0; truth = p.1 }
