@@ -2,12 +2,13 @@
 -- Assumes nothing.
 use Prim.Native.Nat.{ℕ, zero, suc, ◌+◌, ◌≤◌, ◌<◌}
 use mathlib.Core.Path.{◌≡◌, refl, sym, ap, ap₂, ◌∙◌, subst}
-use mathlib.Core.Logic.{◌⊎◌, inl, inr}
 use mathlib.Core.Bool.{Bool, true, false}
 use mathlib.Core.Option.{Option, none, some}
 use mathlib.Core.List.{List, [], ◌∷◌, ◌++◌}
 use native.Mathlib.Omega.{arith}
 use lib.ListN.{length, get_or}
+use Rattle.std.specs.Prelude.{Option as Answer, Some, None, option_map, cond}
+use Rattle.std.specs.List.{find, range_with_len}
 use lib.Dec.{eqb}
 use borrow.Author.Tests.{eq-eqb, ne_eqb}
 use Rattle.meaning.specs.Numbers.{◌or◌}
@@ -15,7 +16,6 @@ use Rattle.meaning.specs.Placement.{Placement, depot, LegalList, no_list, a_list
 use Rattle.meaning.specs.Lists.{Each, each_none, each_more}
 use Rattle.meaning.specs.Full.{Full, Received, whole, full, is_not_received, depot_lacks, lines_where, lacking_lines}
 use Rattle.meaning.proofs.Full.{Lines, none-lack, first-lacks, full-lines}
-use Rattle.meaning.proofs.Booleans.{true-or-false}
 use Rattle.tables.specs.Cells.{missing_cell, length_cell, posts_cell, trainee_start, depot_start}
 use Rattle.tables.specs.Decode.{Sides, placement_with, placement_of}
 use Rattle.tables.specs.Answers.{full_sides, lacking_line}
@@ -25,43 +25,29 @@ use Rattle.tables.proofs.Round.{parts}
 
 -- ---- the loop
 
-module _ (f : ℕ → Bool) (base d i line : ℕ) (inv : line ≡ first_line f base d i) where
-  pub line-here : (d' : ℕ) → d ≡ suc d' → f i ≡ true → base + i ≡ line
-  unfolding first_line
-  line-here d' n t = sym (inv ∙ rw n (rw (t, first_line)))
+-- what the search below `end` finds gives the line
+abbrev pub Found : ℕ → ℕ → ℕ → Answer ℕ → Type 0
+Found base end line (Some k) = (base + k ≡ line) × (k < end)
+Found base end line None = 0 ≡ line
 
-  pub line-more : (d' : ℕ) → d ≡ suc d' → f i ≡ false → line ≡ first_line f base d' (i + 1)
-  unfolding first_line
-  line-more d' n t = inv ∙ rw n (rw (t, first_line))
-
-  pub line-none : d ≡ 0 → 0 ≡ line
-  unfolding first_line
-  line-none n = sym (inv ∙ rw n)
-
-pub line-bound : (f : ℕ → Bool) (base d i : ℕ) → first_line f base d i ≤ base + i + d
+pub line-find : (f : ℕ → Bool) (base d i : ℕ) → Found base (i + d) (first_line f base d i) (find f (range_with_len i d))
 unfolding first_line
-line-bound f base zero i = omega arith
-line-bound f base (suc d) i = go (true-or-false (f i)) (line-bound f base d (i + 1))
+line-find f base zero i = refl
+line-find f base (suc d) i =
+    let z : i + 1 + d ≡ i + suc d = omega arith in
+    go (f i) (find f (range_with_len (i + 1) d)) (first_line f base d (i + 1)) (subst (λ k. Found base k (first_line f base d (i + 1)) (find f (range_with_len (i + 1) d))) z (line-find f base d (i + 1)))
   where
-    go : (f i ≡ true) ⊎ (f i ≡ false) → first_line f base d (i + 1) ≤ base + (i + 1) + d → first_line f base (suc d) i ≤ base + i + suc d
-    go (inl t) w = rw (t, first_line) (omega arith)
-    go (inr u) w = rw (u, first_line) (omega arith)
+    go : (b : Bool) (r : Answer ℕ) (line : ℕ) → Found base (i + suc d) line r → Found base (i + suc d) (elim b [ true ↦ base + i | false ↦ line ]) (cond b (Some i) r)
+    go true r line w = (refl, omega arith)
+    go false r line w = w
 
-pub depot-posts : (h : List ℕ) (n j : ℕ) → get_or h (depot_start n j + 2) 0 ≡ missing_cell → true ≡ depot_missing h n j
-unfolding depot_missing ◌or◌
-depot-posts h n j e = rw (eq-eqb (get_or h (depot_start n j + 2) 0) missing_cell e)
-
-pub depot-list : (h : List ℕ) (n j : ℕ) → (get_or h (depot_start n j + 2) 0 ≡ missing_cell → ⊥) → eqb (get_or h (depot_start n j + 1) 0) missing_cell ≡ depot_missing h n j
-unfolding depot_missing ◌or◌
-depot-list h n j e = rw (ne_eqb (get_or h (depot_start n j + 2) 0) missing_cell e)
-
-pub trainee-lacks : (h : List ℕ) (i : ℕ) → get_or h (trainee_start i + 1) 0 ≡ missing_cell → trainee_missing h i ≡ true
-unfolding trainee_missing
-trainee-lacks h i e = eq-eqb _ _ e
-
-pub trainee-has : (h : List ℕ) (i : ℕ) → (get_or h (trainee_start i + 1) 0 ≡ missing_cell → ⊥) → trainee_missing h i ≡ false
-unfolding trainee_missing
-trainee-has h i e = ne_eqb _ _ e
+-- the same of an answer that is what the search finds
+pub line-found : (f : ℕ → Bool) (base d i : ℕ) {r s : Answer ℕ} → option_map (λ x. x) r ≡ find f (range_with_len i d) → r ≡ s → Found base (i + d) (first_line f base d i) s
+line-found f base d i {r} {s} e q = subst (Found base (i + d) (first_line f base d i)) (sym (own r ∙ e) ∙ q) (line-find f base d i)
+  where
+    own : (r : Answer ℕ) → r ≡ option_map (λ x. x) r
+    own (Some x) = refl
+    own None = refl
 
 -- ---- the first of the lines that lack something
 

@@ -1,12 +1,13 @@
 -- Laws of tests, and of one value after another. Assumes nothing.
-use Prim.Native.Nat.{ℕ}
-use mathlib.Core.Path.{◌≡◌, refl}
-use mathlib.Core.Bool.{Bool, true, false}
+use Prim.Native.Nat.{ℕ, ◌≤◌, ◌<◌}
+use mathlib.Core.Path.{◌≡◌, refl, sym, ◌∙◌}
+use mathlib.Core.Logic.{◌⊎◌, inl, inr}
+use mathlib.Core.Bool.{Bool, true, false, false≢true}
 use mathlib.Core.Option.{Option, none, some}
 use lib.Dec.{leb}
-use borrow.Author.Tests.{leb-true, le-leb}
+use borrow.Author.Tests.{leb-true, leb-false, le-leb}
 use Rattle.meaning.specs.Numbers.{In}
-use Rattle.meaning.proofs.Booleans.{and_intro, and_left, and_right, none-some}
+use Rattle.meaning.proofs.Booleans.{true-or-false, and_intro, and_left, and_right, none-some}
 use Rattle.tables.specs.Decode.{next, when, within}
 
 -- ---- tests
@@ -18,6 +19,13 @@ in_within hi v b = and_intro (le-leb _ _ b.low) (le-leb _ _ b.high)
 pub within_in : (hi v : ℕ) → within hi v ≡ true → In hi v
 unfolding within
 within_in hi v t = record { low = leb-true _ _ (and_left _ _ t); high = leb-true _ _ (and_right (leb 1 v) _ t) }
+
+pub past : (hi v : ℕ) → 1 ≤ v → within hi v ≡ false → hi < v
+past hi v k f = leb-false v hi (go (true-or-false (leb v hi)))
+  where
+    go : (leb v hi ≡ true) ⊎ (leb v hi ≡ false) → leb v hi ≡ false
+    go (inl t) = absurd (false≢true (sym f ∙ in_within hi v (record { low = k; high = leb-true v hi t })))
+    go (inr n) = n
 
 -- ---- one value after another
 

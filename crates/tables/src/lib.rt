@@ -5,11 +5,11 @@ ghost use Rattle.std.specs.Prelude.{◌≡◌, not, false, List, [], ℕ, ◌+�
 ghost use Rattle.std.proofs.Math.Option.{some};
 ghost use Rattle.meaning.specs.Numbers.{◌&◌};
 ghost use Rattle.meaning.specs.Lists.{weigh};
-ghost use Rattle.meaning.specs.Placement.{size, depot_size};
+ghost use Rattle.meaning.specs.Placement.{size};
 ghost use Rattle.tables.specs.Cells.{trainee_start, depot_start, order_start, part, HeadRoom};
-ghost use Rattle.tables.specs.Decode.{within, good_entries, list_from, posts_from, trainee_from, depot_from, order_from, trainees_from, depots_from, orders_from, limits, Sides, lists_from, sides_of, few_orders_of, placement_of};
+ghost use Rattle.tables.specs.Decode.{within, good_entries, posts_from, trainee_from, order_from, orders_from, series_from, limits, Sides, lists_from, sides_of, few_orders_of, placement_of};
 ghost use Rattle.tables.specs.Answers.{sized, full_sides, lacking_line, said_by, receipt_of, trainee_list, trainee_receipt};
-ghost use Rattle.tables.specs.Walk.{is_some, end_of, Ends, first_line, trainee_missing, depot_missing};
+ghost use Rattle.tables.specs.Walk.{is_some, end_of, Ends, all_posts, trainee_missing, depot_missing};
 
 use meaning::{Receipt, Refusal};
 
@@ -146,11 +146,11 @@ pub fn list_at<'a>(heads: &[u16], entries: &'a [u16], at: usize) -> &'a [u16]
     &entries[start..end]
 }
 
-// Where the entries of one list, or of several, end; or no reader could have filled the cells.
-#[derive(Clone, Copy)]
-enum End {
-    At(usize),
-    Wrong,
+// Whether x is one of 1 to hi.
+fn in_range(x: usize, hi: usize) -> bool
+    ensures { result ≡ within hi x }
+{
+    1 <= x && x <= hi
 }
 
 // Whether x is one of 1 to hi and has no mark.
@@ -158,13 +158,7 @@ fn fresh(marks: &[bool; 257], x: usize, hi: usize) -> bool
     requires { hi ≤ 256 }
     ensures { result ≡ within hi x & not (get_or marks.now x false) }
 {
-    if x < 1 {
-        return false;
-    }
-    if hi < x {
-        return false;
-    }
-    !marks[x]
+    in_range(x, hi) && !marks[x]
 }
 
 // Whether a list names only 1 to hi and nobody twice; from the last one back, so that the marks are those of the entries behind.
@@ -173,10 +167,8 @@ fn good_entries(list: &[u16], hi: usize) -> bool
     ensures { result ≡ good_entries hi list.now }
 {
     let mut marks: [bool; 257] = [false; 257];
-    let mut p = list.len();
-    while 0 < p {
-        p -= 1;
-        let x = entry_of(list, p);
+    for x in list.iter().rev() {
+        let x = *x as usize;
         if !fresh(&marks, x, hi) {
             return false;
         }
@@ -185,118 +177,67 @@ fn good_entries(list: &[u16], hi: usize) -> bool
     true
 }
 
-// The end of the list that starts at s and has the length cell v.
-fn list_end(entries: &[u16], s: usize, v: usize, hi: usize) -> End
-    requires { (s ≤ length entries.now) × (hi ≤ 256) }
-    ensures { Ends (length entries.now) (end_of size s (list_from hi v (drop s entries.now))) result }
-{
-    if v == NOT_RECEIVED {
-        return End::At(s);
-    }
-    if hi < v {
-        return End::Wrong;
-    }
-    if entries.len() - s < v {
-        return End::Wrong;
-    }
-    let to = s + v;
-    let list = &entries[s..to];
-    if !good_entries(list, hi) {
-        return End::Wrong;
-    }
-    End::At(to)
-}
-
-// The end of the list of the trainee whose cells stand at `at`.
-fn trainee_end(heads: &[u16], entries: &[u16], at: usize, s: usize, m: usize) -> End
-    requires { (at + 1 < length heads.now) × (s ≤ length entries.now) × (m ≤ 256) }
-    ensures { Ends (length entries.now) (end_of size s (trainee_from m s (drop at heads.now) (drop s entries.now))) result }
+// Where the list ends whose cells stand at `at` and whose entries start at s; none if no reader could have filled the cells.
+fn list_end(heads: &[u16], entries: &[u16], at: usize, s: usize, hi: usize) -> Option<usize>
+    requires { (at + 1 < length heads.now) × (s ≤ length entries.now) × (hi ≤ 256) }
+    ensures { Ends (length entries.now) (end_of size s (trainee_from hi s (drop at heads.now) (drop s entries.now))) result }
 {
     if start_of(heads, at) != s {
-        return End::Wrong;
+        return None;
     }
-    list_end(entries, s, length_of(heads, at), m)
+    let v = length_of(heads, at);
+    if v == NOT_RECEIVED {
+        return Some(s);
+    }
+    let to = s + v;
+    let list = entries.get(s..to)?;
+    if v <= hi && good_entries(list, hi) {
+        Some(to)
+    } else {
+        None
+    }
 }
 
-// The end of all trainees' lists.
-fn trainees_end(heads: &[u16], entries: &[u16], n: usize, m: usize) -> End
-    requires { (3 + 2 * n ≤ length heads.now) × (n ≤ 256) × (m ≤ 256) }
-    ensures { Ends (length entries.now) (end_of (weigh size) 0 (trainees_from n m (drop 3 heads.now) entries.now)) result }
+// Where the last of `count` lists ends, whose cells stand from `first` on, `wide` of them for each, and whose entries start at `start`.
+fn lists_end(
+    heads: &[u16],
+    entries: &[u16],
+    first: usize,
+    wide: usize,
+    count: usize,
+    start: usize,
+    hi: usize,
+) -> Option<usize>
+    requires { (2 ≤ wide) × (wide ≤ 3) × (first + wide * count ≤ length heads.now) × (count ≤ 256) × (start ≤ length entries.now) × (hi ≤ 256) }
+    ensures { Ends (length entries.now) (end_of (weigh size) start (series_from (trainee_from hi) size wide count start (drop first heads.now) (drop start entries.now))) result }
 {
-    let mut s: usize = 0;
-    let mut i: usize = 1;
-    while i <= n {
-        let t = trainee_end(heads, entries, trainee_at(i), s, m);
-        match t {
-            End::Wrong => {
-                return End::Wrong;
-            }
-            End::At(next) => {
-                s = next;
-                i += 1;
-            }
-        }
+    let mut s = start;
+    for k in 0..count {
+        s = list_end(heads, entries, first + wide * k, s, hi)?;
     }
-    End::At(s)
+    Some(s)
 }
 
 // Whether posts were received in range, or not received.
 fn posts_ok(v: usize) -> bool
     ensures { result ≡ is_some (posts_from v) }
 {
-    if v == NOT_RECEIVED {
-        return true;
-    }
-    v <= 256
+    v == NOT_RECEIVED || v <= 256
 }
 
-// The end of the list of the depot whose cells stand at `at`.
-fn depot_end(heads: &[u16], entries: &[u16], at: usize, s: usize, n: usize) -> End
-    requires { (at + 2 < length heads.now) × (s ≤ length entries.now) × (n ≤ 256) }
-    ensures { Ends (length entries.now) (end_of depot_size s (depot_from n s (drop at heads.now) (drop s entries.now))) result }
+// Whether the posts of each of m depots are in range, or not received.
+fn all_posts_ok(heads: &[u16], n: usize, m: usize) -> bool
+    requires { (3 + 2 * n + 3 * m ≤ length heads.now) × (n ≤ 256) × (m ≤ 64) }
+    ensures { result ≡ all_posts m (drop (3 + 2 * n) heads.now) }
 {
-    if start_of(heads, at) != s {
-        return End::Wrong;
-    }
-    if !posts_ok(posts_of(heads, at)) {
-        return End::Wrong;
-    }
-    list_end(entries, s, length_of(heads, at), n)
-}
-
-// The end of all depots' lists, whose entries begin at `start`.
-fn depots_end(heads: &[u16], entries: &[u16], start: usize, n: usize, m: usize) -> End
-    requires { (3 + 2 * n + 3 * m ≤ length heads.now) × (start ≤ length entries.now) × (n ≤ 256) × (m ≤ 64) }
-    ensures { Ends (length entries.now) (end_of (weigh depot_size) start (depots_from n m start (drop (3 + 2 * n) heads.now) (drop start entries.now))) result }
-{
-    let mut s = start;
-    let mut j: usize = 1;
-    while j <= m {
-        let t = depot_end(heads, entries, depot_at(n, j), s, n);
-        match t {
-            End::Wrong => {
-                return End::Wrong;
-            }
-            End::At(next) => {
-                s = next;
-                j += 1;
-            }
-        }
-    }
-    End::At(s)
+    (1..m + 1).all(|j| posts_ok(posts_of(heads, depot_at(n, j))))
 }
 
 // Whether the edition is this reader's, and n and m are in range.
 fn limits_ok(edition: usize, n: usize, m: usize) -> bool
     ensures { result ≡ limits edition n m }
 {
-    if edition != 1 {
-        return false;
-    }
-    if 256 < n {
-        return false;
-    }
-    m <= 64
+    edition == 1 && n <= 256 && m <= 64
 }
 
 // Whether the lists and posts are ones that a reader fills.
@@ -304,20 +245,13 @@ fn lists_ok(heads: &[u16], entries: &[u16], n: usize, m: usize) -> bool
     requires { (707 ≤ length heads.now) × (n ≤ 256) × (m ≤ 64) }
     ensures { result ≡ is_some (lists_from (get_or heads.now 0 0) n m (drop 3 heads.now) entries.now) }
 {
-    let t = trainees_end(heads, entries, n, m);
-    match t {
-        End::Wrong => false,
-        End::At(s) => {
-            if 4096 < s {
-                return false;
-            }
-            let d = depots_end(heads, entries, s, n, m);
-            match d {
-                End::Wrong => false,
-                End::At(f) => f - s <= 4096,
-            }
-        }
-    }
+    let Some(s) = lists_end(heads, entries, 3, 2, n, 0, m) else {
+        return false;
+    };
+    let Some(f) = lists_end(heads, entries, 3 + 2 * n, 3, m, s, n) else {
+        return false;
+    };
+    s <= 4096 && f - s <= 4096 && all_posts_ok(heads, n, m)
 }
 
 // Whether heads and entries hold the sides of a placement.
@@ -327,20 +261,7 @@ pub fn sides_ok(heads: &[u16], entries: &[u16]) -> bool
 {
     let n = trainees_of(heads);
     let m = depots_of(heads);
-    if !limits_ok(edition_of(heads), n, m) {
-        return false;
-    }
-    lists_ok(heads, entries, n, m)
-}
-
-// Whether x is one of 1 to hi.
-fn in_range(x: usize, hi: usize) -> bool
-    ensures { result ≡ within hi x }
-{
-    if x < 1 {
-        return false;
-    }
-    x <= hi
+    limits_ok(edition_of(heads), n, m) && lists_ok(heads, entries, n, m)
 }
 
 // Whether the cells at `at` are an order.
@@ -348,13 +269,9 @@ fn order_ok(orders: &[u16], at: usize, n: usize, m: usize) -> bool
     requires { at + 2 < length orders.now }
     ensures { result ≡ is_some (order_from n m 0 (drop at orders.now) []) }
 {
-    if 1 < order_kind(orders, at) {
-        return false;
-    }
-    if !in_range(order_trainee(orders, at), n) {
-        return false;
-    }
-    in_range(order_depot(orders, at), m)
+    order_kind(orders, at) <= 1
+        && in_range(order_trainee(orders, at), n)
+        && in_range(order_depot(orders, at), m)
 }
 
 // Whether the first `count` orders are ones.
@@ -362,14 +279,7 @@ fn first_orders_ok(orders: &[u16], count: usize, n: usize, m: usize) -> bool
     requires { (1 + 3 * count ≤ length orders.now) × (count ≤ 1024) }
     ensures { result ≡ is_some (orders_from n m count (drop 1 orders.now)) }
 {
-    let mut k: usize = 0;
-    while k < count {
-        if !order_ok(orders, order_at(k), n, m) {
-            return false;
-        }
-        k += 1;
-    }
-    true
+    (0..count).all(|k| order_ok(orders, order_at(k), n, m))
 }
 
 // Whether a table holds orders of n trainees and m depots, no more than a file may have.
@@ -378,10 +288,7 @@ pub fn orders_ok(orders: &[u16], n: usize, m: usize) -> bool
     ensures { result ≡ is_some (few_orders_of n m orders.now) }
 {
     let count = orders_of(orders);
-    if 1024 < count {
-        return false;
-    }
-    first_orders_ok(orders, count, n, m)
+    count <= 1024 && first_orders_ok(orders, count, n, m)
 }
 
 // Whether a reader could have filled the used cells: number 8 is given back where none could, which is where no legal placement has these fronts
@@ -390,25 +297,15 @@ pub fn used_cells_ok(heads: &[u16], entries: &[u16], orders: &[u16]) -> bool
     requires { (707 ≤ length heads.now) × (3073 ≤ length orders.now) }
     ensures { result ≡ is_some (placement_of heads.now entries.now orders.now) }
 {
-    if !sides_ok(heads, entries) {
-        return false;
-    }
-    orders_ok(orders, trainees_of(heads), depots_of(heads))
+    sides_ok(heads, entries) && orders_ok(orders, trainees_of(heads), depots_of(heads))
 }
 
-// The line of the first trainee whose list was not received; 0 for none.
-fn missing_trainee(heads: &[u16], n: usize) -> usize
-    requires { (3 + 2 * n ≤ length heads.now) × (n ≤ 256) }
-    ensures { result ≡ first_line (trainee_missing heads.now) 1 n 1 }
+// Whether trainee i's list was not received.
+fn trainee_lacks(heads: &[u16], i: usize) -> bool
+    requires { (2 * i + 2 < length heads.now) × (i ≤ 256) }
+    ensures { result ≡ trainee_missing heads.now i }
 {
-    let mut i: usize = 1;
-    while i <= n {
-        if length_of(heads, trainee_at(i)) == NOT_RECEIVED {
-            return 1 + i;
-        }
-        i += 1;
-    }
-    0
+    length_of(heads, trainee_at(i)) == NOT_RECEIVED
 }
 
 // Whether depot j's posts or list were not received.
@@ -417,25 +314,7 @@ fn depot_lacks(heads: &[u16], n: usize, j: usize) -> bool
     ensures { result ≡ depot_missing heads.now n j }
 {
     let at = depot_at(n, j);
-    if posts_of(heads, at) == NOT_RECEIVED {
-        return true;
-    }
-    length_of(heads, at) == NOT_RECEIVED
-}
-
-// The line of the first depot whose posts or list were not received; 0 for none.
-fn missing_depot(heads: &[u16], n: usize, m: usize) -> usize
-    requires { (3 + 2 * n + 3 * m ≤ length heads.now) × (n ≤ 256) × (m ≤ 64) }
-    ensures { result ≡ first_line (depot_missing heads.now n) (n + 1) m 1 }
-{
-    let mut j: usize = 1;
-    while j <= m {
-        if depot_lacks(heads, n, j) {
-            return n + 1 + j;
-        }
-        j += 1;
-    }
-    0
+    posts_of(heads, at) == NOT_RECEIVED || length_of(heads, at) == NOT_RECEIVED
 }
 
 // The line that number 7 gives for heads that hold a placement's, whatever the entries beside them; 0 where all was received (`whole-at-zero`,
@@ -445,24 +324,20 @@ pub fn first_missing_line(heads: &[u16]) -> u16
     ensures { (e : List ℕ) (b : Sides) → sides_of heads.now e ≡ some b → result ≡ lacking_line (full_sides b) }
 {
     let n = trainees_of(heads);
-    let first = missing_trainee(heads, n);
-    if first != 0 {
-        return first as u16;
+    if let Some(i) = (1..n + 1).find(|i| trainee_lacks(heads, *i)) {
+        return (1 + i) as u16;
     }
-    missing_depot(heads, n, depots_of(heads)) as u16
+    if let Some(j) = (1..depots_of(heads) + 1).find(|j| depot_lacks(heads, n, *j)) {
+        return (n + 1 + j) as u16;
+    }
+    0
 }
 
 // Whether each lent table has its full size: number 1 is given back where one has not.
 pub fn sizes_ok(heads: &[u16], entries: &[u16], orders: &[u16]) -> bool
     ensures { result ≡ sized heads.now entries.now orders.now }
 {
-    if heads.len() < 707 {
-        return false;
-    }
-    if entries.len() < 8192 {
-        return false;
-    }
-    3073 <= orders.len()
+    707 <= heads.len() && 8192 <= entries.len() && 3073 <= orders.len()
 }
 
 // What tells an empty list from none, for heads that hold a placement's, whatever the entries beside them.
@@ -470,10 +345,7 @@ fn receipt_in(heads: &[u16], i: usize) -> Receipt
     requires { HeadRoom heads.now }
     ensures { (e : List ℕ) (b : Sides) → sides_of heads.now e ≡ some b → result ≡ receipt_of (said_by b.trainees i) }
 {
-    if i < 1 {
-        return Receipt::OutOfRange;
-    }
-    if trainees_of(heads) < i {
+    if !in_range(i, trainees_of(heads)) {
         return Receipt::OutOfRange;
     }
     if length_of(heads, trainee_at(i)) == NOT_RECEIVED {

@@ -1,9 +1,13 @@
 -- The decoder's own two tests.
-use Rattle.tables.proofs.Walk.{posts-not-received, posts-given}
+use Rattle.std.proofs.Common.{arith}
+use Rattle.std.proofs.lemmas.Bool.Decides.{nat_tests}
+use Rattle.tables.specs.Decode.{when, posts_from}
 use Rattle.tables.proofs.posts_ok.Goals as goal
 
 pub returns-then-v-eq-NOT_RECEIVED : goal.returns-then-v-eq-NOT_RECEIVED
-returns-then-v-eq-NOT_RECEIVED c = posts-not-received _ c.if-v-eq-NOT_RECEIVED.true
+unfolding posts_from when
+returns-then-v-eq-NOT_RECEIVED c = grind (arith, nat_tests)
 
-pub returns : goal.returns
-returns c = posts-given _ c.if-v-eq-NOT_RECEIVED.false
+pub returns-else-v-eq-NOT_RECEIVED : goal.returns-else-v-eq-NOT_RECEIVED
+unfolding posts_from when
+returns-else-v-eq-NOT_RECEIVED c = grind (arith, nat_tests)
