@@ -350,8 +350,7 @@ pub fn solve_lent(
     if !tables::used_cells_ok(heads, entries, orders) {
         return Ruled::Refused(Refusal { number: 8, line: 0 });
     }
-    let line = tables::first_missing_line(heads);
-    if line != 0 {
+    if let Some(line) = tables::first_missing_line(heads) {
         return Ruled::Refused(Refusal { number: 7, line });
     }
     let ruling = solve_cells(heads, entries, orders, table, cells);

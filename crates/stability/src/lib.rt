@@ -240,8 +240,7 @@ pub fn test_table<'a>(
             line: 0,
         });
     }
-    let line = tables::first_missing_line(heads);
-    if line != 0 {
+    if let Some(line) = tables::first_missing_line(heads) {
         return Err(Refusal {
             fault: Fault::NotReceived,
             line,

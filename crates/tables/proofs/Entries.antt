@@ -15,8 +15,14 @@ use borrow.Author.Tests.{eqb-true, eqb-false}
 use Rattle.meaning.specs.Numbers.{◌&◌}
 use Rattle.meaning.specs.Lists.{member}
 use Rattle.meaning.proofs.Booleans.{true-or-false, and_left}
-use Rattle.tables.proofs.Tests.{within_in}
+use Rattle.tables.proofs.Tests.{in_within, within_in}
 use Rattle.tables.specs.Decode.{within, good_entries}
+
+-- ---- one number
+
+pub inside : (hi x : ℕ) (b : Bool) → 1 ≤ x → x ≤ hi → within hi x & b ≡ b
+unfolding ◌&◌
+inside hi x b h k = rw (in_within hi x (record { low = h; high = k }))
 
 -- ---- one more entry in front
 

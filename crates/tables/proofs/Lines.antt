@@ -8,17 +8,27 @@ use mathlib.Core.List.{List, [], ◌∷◌, ◌++◌}
 use native.Mathlib.Omega.{arith}
 use lib.ListN.{length, get_or}
 use Rattle.std.specs.Prelude.{Option as Answer, Some, None, option_map, cond}
-use Rattle.std.specs.List.{find, range_with_len}
+use Rattle.std.specs.List.{find, range_with_len, FoldsTo}
+use Rattle.std.specs.Bool.{⊤}
+use Rattle.std.specs.Fn.{CalledAt}
+use Rattle.std.specs.Iterator.{YieldsThen}
+use Rattle.std.specs.Option.{MatchOption}
+use Rattle.std.specs.declared.ops.Range.{Range}
+use Rattle.std.proofs.iter.Yields.{nat_range_steps}
+use Rattle.std.proofs.lemmas.Iterator.{YieldsList-from_range}
+use Rattle.std.proofs.lemmas.Iterator.Search.{find_from_yields_List}
+use denote.Param.Members.{Mut}
+use denote.Ref.{Bor}
 use lib.Dec.{eqb}
 use borrow.Author.Tests.{eq-eqb, ne_eqb}
 use Rattle.meaning.specs.Numbers.{◌or◌}
 use Rattle.meaning.specs.Placement.{Placement, depot, LegalList, no_list, a_list, LegalPosts, no_posts, some_posts}
 use Rattle.meaning.specs.Lists.{Each, each_none, each_more}
-use Rattle.meaning.specs.Full.{Full, Received, whole, full, is_not_received, depot_lacks, lines_where, lacking_lines}
+use Rattle.meaning.specs.Full.{Full, Received, whole, lacking, full, is_not_received, depot_lacks, lines_where, lacking_lines}
 use Rattle.meaning.proofs.Full.{Lines, none-lack, first-lacks, full-lines}
 use Rattle.tables.specs.Cells.{missing_cell, length_cell, posts_cell, trainee_start, depot_start}
-use Rattle.tables.specs.Decode.{Sides, placement_with, placement_of}
-use Rattle.tables.specs.Answers.{full_sides, lacking_line}
+use Rattle.tables.specs.Decode.{Sides, sides_of, placement_with, placement_of}
+use Rattle.tables.specs.Answers.{full_sides, lacking_line, LineOf}
 use Rattle.tables.specs.Walk.{first_line, trainee_missing, depot_missing}
 use Rattle.tables.proofs.Seen.{ListSeen, SidesSeen}
 use Rattle.tables.proofs.Round.{parts}
@@ -41,9 +51,14 @@ line-find f base (suc d) i =
     go true r line w = (refl, omega arith)
     go false r line w = w
 
--- the same of an answer that is what the search finds
-pub line-found : (f : ℕ → Bool) (base d i : ℕ) {r s : Answer ℕ} → option_map (λ x. x) r ≡ find f (range_with_len i d) → r ≡ s → Found base (i + d) (first_line f base d i) s
-line-found f base d i {r} {s} e q = subst (Found base (i + d) (first_line f base d i)) (sym (own r ∙ e) ∙ q) (line-find f base d i)
+-- the same of what `find` answers over 1 to n
+pub line-found : {F : Type 0} {g : Mut F (Bor ℕ × Unit {0}) Bool} {s : Range ℕ} {f : F} {r a : Answer ℕ} (test : ℕ → Bool) (base n : ℕ) (u : Range ℕ)
+    → (xs : List ℕ) × (j : F) × YieldsThen nat_range_steps s xs r u × FoldsTo (λ p x q. CalledAt g p x false q) f xs j × MatchOption r ⊤ (λ x. (h : F) × CalledAt g j x true h)
+    → s ≡ record { start = 1; end = n + 1 } → ((x : ℕ) (b : Bool) (q : F) → CalledAt g f x b q → (q ≡ f) × (b ≡ test x)) → r ≡ a
+    → Found base (1 + n) (first_line test base n 1) a
+line-found {r = r} {a = a} test base n u ran all tells is =
+    subst (Found base (1 + n) (first_line test base n 1))
+    (sym (own r ∙ find_from_yields_List test _ _ _ ran (YieldsList-from_range 1 (n + 1) n all (omega arith)) tells) ∙ is) (line-find test base n 1)
   where
     own : (r : Answer ℕ) → r ≡ option_map (λ x. x) r
     own (Some x) = refl
@@ -169,6 +184,17 @@ full-sides h e o p k = ap full (sym (parts h e o p k).is)
 pub record IsWhole {A : Type 0} (r : Received A) : Type 0 where
   pub value : A
   pub here : r ≡ whole value
+
+-- what the heads tell of every placement that they hold
+pub of-placement : (h e o : List ℕ) (p : Placement) (k : placement_of h e o ≡ some p) (line : Answer ℕ)
+    → ((e : List ℕ) (b : Sides) → sides_of h e ≡ some b → LineOf (full_sides b) line) → LineOf (full p) line
+of-placement h e o p k line gives = let q = parts h e o p k in subst (λ r. LineOf r line) (sym (full-sides h e o p k)) (gives e q.sides q.sides-of)
+
+-- a line is given only where something is lacking there
+pub lacking-at : {A : Type 0} (r : Received A) (l : ℕ) → LineOf r (Some l) → r ≡ lacking l
+unfolding lacking_line
+lacking-at (whole a) l k = absurd (omega arith)
+lacking-at (lacking i) l k = ap lacking k.0
 
 each-join : {P : ℕ → Type 0} {a b : List ℕ} → Each P a → Each P b → Each P (a ++ b)
 each-join each_none w = w

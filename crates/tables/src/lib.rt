@@ -8,7 +8,7 @@ ghost use Rattle.meaning.specs.Lists.{weigh};
 ghost use Rattle.meaning.specs.Placement.{size};
 ghost use Rattle.tables.specs.Cells.{trainee_start, depot_start, order_start, part, HeadRoom};
 ghost use Rattle.tables.specs.Decode.{within, good_entries, posts_from, trainee_from, order_from, orders_from, series_from, limits, Sides, lists_from, sides_of, few_orders_of, placement_of};
-ghost use Rattle.tables.specs.Answers.{sized, full_sides, lacking_line, said_by, receipt_of, trainee_list, trainee_receipt};
+ghost use Rattle.tables.specs.Answers.{sized, full_sides, LineOf, said_by, receipt_of, trainee_list, trainee_receipt};
 ghost use Rattle.tables.specs.Walk.{is_some, end_of, Ends, all_posts, trainee_missing, depot_missing};
 
 use meaning::{Fault, Receipt, Refusal};
@@ -317,20 +317,18 @@ fn depot_lacks(heads: &[u16], n: usize, j: usize) -> bool
     posts_of(heads, at) == NOT_RECEIVED || length_of(heads, at) == NOT_RECEIVED
 }
 
-// The line that number 7 gives for heads that hold a placement's, whatever the entries beside them; 0 where all was received (`whole-at-zero`,
+// The line that number 7 gives for heads that hold a placement's, whatever the entries beside them; none where all was received (`whole-at-zero`,
 // proofs/Lines).
-pub fn first_missing_line(heads: &[u16]) -> u16
+pub fn first_missing_line(heads: &[u16]) -> Option<u16>
     requires { HeadRoom heads.now }
-    ensures { (e : List ℕ) (b : Sides) → sides_of heads.now e ≡ some b → result ≡ lacking_line (full_sides b) }
+    ensures { (e : List ℕ) (b : Sides) → sides_of heads.now e ≡ some b → LineOf (full_sides b) result }
 {
     let n = trainees_of(heads);
     if let Some(i) = (1..n + 1).find(|i| trainee_lacks(heads, *i)) {
-        return (1 + i) as u16;
+        return Some((1 + i) as u16);
     }
-    if let Some(j) = (1..depots_of(heads) + 1).find(|j| depot_lacks(heads, n, *j)) {
-        return (n + 1 + j) as u16;
-    }
-    0
+    let j = (1..depots_of(heads) + 1).find(|j| depot_lacks(heads, n, *j))?;
+    Some((n + 1 + j) as u16)
 }
 
 // Whether each lent table has its full size: number 1 is given back where one has not.

@@ -2,9 +2,9 @@
 use Prim.Native.Nat.{◌+◌, ◌≤◌, ◌<◌}
 use mathlib.Core.Path.{sym, ap, ◌∙◌, subst}
 use lib.ListN.{length, get_or}
-use Rattle.std.specs.Prelude.{Ok}
 use Rattle.tables.specs.Cells.{part}
 use Rattle.tables.proofs.Receipts.{received-part, other-part, ok-same}
+use Rattle.std.specs.Prelude.{Ok}
 use Rattle.tables.proofs.trainee_list.Goals as goal
 
 pub trainee_at-requires : goal.trainee_at-requires
