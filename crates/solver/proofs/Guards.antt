@@ -14,13 +14,12 @@ use Rattle.meaning.specs.Placement.{Placement}
 use Rattle.meaning.specs.Full.{Full, whole, and_then, full}
 use Rattle.meaning.specs.Solver.{WholeRuling, head_of, solve, ruled}
 use Rattle.meaning.specs.Answers.{SHORT_PART, NOT_RECEIVED, NOT_READ, refusal}
-use Rattle.meaning.specs.declared.Ruled.{Ruled}
 use Rattle.meaning.specs.declared.Ruling.{Ruling}
 use Rattle.meaning.proofs.Solver.{always-ruled}
 use Rattle.tables.specs.Decode.{Sides, sides_of, placement_of}
 use Rattle.tables.specs.Answers.{full_sides, LineOf}
 use Rattle.tables.specs.Walk.{is_some}
-use Rattle.std.specs.Prelude.{Some, None}
+use Rattle.std.specs.Prelude.{Some, None, Ok, Err}
 use Rattle.tables.proofs.Lines.{IsWhole, of-placement, lacking-at, whole-at-zero}
 use Rattle.tables.proofs.Views.{TablesSeen, tables-seen}
 use Rattle.ranks.specs.View.{FullTables}
@@ -37,16 +36,16 @@ pub record ReadTables (h e o t : List ℕ) (room : ℕ) : Type 0 where
   pub by : solve_of h e o t room ≡ solve_if_full (ruled placement) t
 
 module _ (h e o t : List ℕ) (room : ℕ) where
-  pub solve-short : (cells : List ℕ) → roomy h e o (length t) room ≡ false → solve_of h e o t room ≡ some (given_by (Ruled.Refused (refusal SHORT_PART 0)) t cells)
+  pub solve-short : (cells : List ℕ) → roomy h e o (length t) room ≡ false → solve_of h e o t room ≡ some (given_by (Err (refusal SHORT_PART 0)) t cells)
   unfolding solve_of recorded strikes_in
   solve-short cells u = rw (u, solve_of)
 
   module _ (long : roomy h e o (length t) room ≡ true) where
-    pub solve-unread : (cells : List ℕ) → is_some (placement_of h e o) ≡ false → solve_of h e o t room ≡ some (given_by (Ruled.Refused (refusal NOT_READ 0)) t cells)
+    pub solve-unread : (cells : List ℕ) → is_some (placement_of h e o) ≡ false → solve_of h e o t room ≡ some (given_by (Err (refusal NOT_READ 0)) t cells)
     unfolding solve_of solve_if_read recorded strikes_in
     solve-unread cells u = rw (long, solve_of) (go (placement_of h e o) u)
       where
-        go : (q : Option Placement) → is_some q ≡ false → solve_if_read q t ≡ some (given_by (Ruled.Refused (refusal NOT_READ 0)) t cells)
+        go : (q : Option Placement) → is_some q ≡ false → solve_if_read q t ≡ some (given_by (Err (refusal NOT_READ 0)) t cells)
         go none u = refl
         go (some p) u = absurd (true≢false u)
 
@@ -62,7 +61,7 @@ module _ (h e o t : List ℕ) (room : ℕ) where
 
 module _ (h e o t : List ℕ) (room : ℕ) (g : ReadTables h e o t room) where
   pub solve-lacking : (line : ℕ) → ((e' : List ℕ) (b : Sides) → sides_of h e' ≡ some b → LineOf (full_sides b) (Some line))
-      → (cells : List ℕ) → solve_of h e o t room ≡ some (given_by (Ruled.Refused (refusal NOT_RECEIVED line)) t cells)
+      → (cells : List ℕ) → solve_of h e o t room ≡ some (given_by (Err (refusal NOT_RECEIVED line)) t cells)
   unfolding solve_if_full ruled and_then recorded strikes_in
   solve-lacking line gives cells = g.by ∙ rw (lacking-at (full g.placement) line (of-placement h e o g.placement g.held (Some line) gives))
 
@@ -81,7 +80,7 @@ module _ (h e o t : List ℕ) (room : ℕ) (g : ReadTables h e o t room) where
     -- what the solver on cells promises is what the definition gives
     pub solve-whole : (table cells : List ℕ) (r : Ruling)
         → ((p : Placement) (F : Full) → placement_of h e o ≡ some p → full p ≡ whole F → (w : WholeRuling) → solve F p.orders ≡ some w → SolvedAs w t table cells r)
-        → solve_of h e o t room ≡ some (given_by (Ruled.Ruling r) table cells)
+        → solve_of h e o t room ≡ some (given_by (Ok r) table cells)
     unfolding solve_if_full ruled and_then recorded head_of strikes_in
     solve-whole table cells r promise =
         let F = its_full.value in

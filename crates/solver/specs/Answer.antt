@@ -1,6 +1,6 @@
 -- What the solver gives for lent tables (document 01, "Strikes and endings" and "Numbers given back"): the answer, the table and the record, guard by guard.
 -- Assumes nothing.
-use Rattle.std.specs.Prelude.{ℕ, true, false, List, [], length}
+use Rattle.std.specs.Prelude.{ℕ, true, false, List, [], length, Result, Ok, Err}
 use Rattle.std.proofs.Math.Option.{Option, none, some}
 use Rattle.rulings.specs.Held.{table_after, roomy}
 use Rattle.meaning.specs.Placement.{Placement}
@@ -8,19 +8,20 @@ use Rattle.meaning.specs.Full.{Received, whole, lacking}
 use Rattle.meaning.specs.Solver.{WholeRuling, head_of, ruled}
 use Rattle.meaning.specs.Answers.{SHORT_PART, NOT_RECEIVED, NOT_READ, refusal}
 use Rattle.meaning.specs.declared.Strike.{Strike}
-use Rattle.meaning.specs.declared.Ruled.{Ruled}
+use Rattle.meaning.specs.declared.Ruling.{Ruling}
+use Rattle.meaning.specs.declared.Refusal.{Refusal}
 use Rattle.tables.specs.Decode.{placement_of}
 use Rattle.strikes.specs.Cells.{strikes_in, recorded}
 
 -- all that is given back: the answer, the table as it is left, and the strikes that go into the record
 pub record Given : Type 0 where
-  pub answer : Ruled
+  pub answer : Result Ruling Refusal
   pub table : List ℕ
   pub strikes : List Strike
 
 -- a refusal leaves the table as it was and records nothing
 abbrev pub refusing : ℕ → ℕ → List ℕ → Given
-refusing number line t = record { answer = Ruled.Refused (refusal number line); table = t; strikes = [] }
+refusing number line t = record { answer = Err (refusal number line); table = t; strikes = [] }
 
 -- ---- the answer
 
@@ -28,7 +29,7 @@ refusing number line t = record { answer = Ruled.Refused (refusal number line); 
 unfoldable pub solve_if_full : Received (Option WholeRuling) → List ℕ → Option Given
 solve_if_full (lacking l) t = some (refusing NOT_RECEIVED l t)
 solve_if_full (whole none) t = none
-solve_if_full (whole (some w)) t = some (record { answer = Ruled.Ruling (head_of w); table = table_after w.outcome t; strikes = w.strikes })
+solve_if_full (whole (some w)) t = some (record { answer = Ok (head_of w); table = table_after w.outcome t; strikes = w.strikes })
 
 unfoldable pub solve_if_read : Option Placement → List ℕ → Option Given
 solve_if_read none t = some (refusing NOT_READ 0 t)
@@ -39,5 +40,5 @@ unfoldable pub solve_of : List ℕ → List ℕ → List ℕ → List ℕ → �
 solve_of h e o t room = elim (roomy h e o (length t) room) [ true ↦ solve_if_read (placement_of h e o) t | false ↦ some (refusing SHORT_PART 0 t) ]
 
 -- what a call gave, read off its answer, its table and its cells
-abbrev pub given_by : Ruled → List ℕ → List ℕ → Given
+abbrev pub given_by : Result Ruling Refusal → List ℕ → List ℕ → Given
 given_by r t cells = record { answer = r; table = t; strikes = strikes_in cells (recorded r) }

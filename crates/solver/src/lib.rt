@@ -23,7 +23,7 @@ ghost use Rattle.solver.specs.Solved.{AllStruck, ending_in, table_by, SolvedAs};
 ghost use Rattle.solver.specs.Answer.{solve_of, given_by};
 ghost use Rattle.solver.specs.Ends.{struck_in, left_in, broken_in, broken_pair, room_of, left_by, Kept, Counted};
 
-use meaning::{Ending, Refusal, Ruled, Ruling, Strike};
+use meaning::{Ending, Fault, Refusal, Ruling, Strike};
 use reasons::Choice;
 
 // Visits place p of i's list: strikes the pair there if a reason fits. The number of strikes now.
@@ -340,19 +340,28 @@ pub fn solve_lent(
     room: usize,
     table: &mut [u16],
     cells: &mut [u16],
-) -> Ruled
+) -> Result<Ruling, Refusal>
     requires { length cells.old ≡ 16384 }
     ensures { solve_of heads.now entries.now orders.now table.old room ≡ some (given_by result table.new cells.new) }
 {
     if !rulings::has_room(heads, entries, orders, table.len(), room) {
-        return Ruled::Refused(Refusal { number: 1, line: 0 });
+        return Err(Refusal {
+            fault: Fault::ShortPart,
+            line: 0,
+        });
     }
     if !tables::used_cells_ok(heads, entries, orders) {
-        return Ruled::Refused(Refusal { number: 8, line: 0 });
+        return Err(Refusal {
+            fault: Fault::NotRead,
+            line: 0,
+        });
     }
     if let Some(line) = tables::first_missing_line(heads) {
-        return Ruled::Refused(Refusal { number: 7, line });
+        return Err(Refusal {
+            fault: Fault::NotReceived,
+            line,
+        });
     }
     let ruling = solve_cells(heads, entries, orders, table, cells);
-    Ruled::Ruling(ruling)
+    Ok(ruling)
 }
