@@ -11,8 +11,5 @@ pub fn has_room(heads: &[u16], entries: &[u16], orders: &[u16], cells: usize, ro
     if !tables::sizes_ok(heads, entries, orders) {
         return false;
     }
-    if cells < 256 {
-        return false;
-    }
-    4096 <= room
+    256 <= cells && 4096 <= room
 }
