@@ -11,4 +11,4 @@ pub returns-then-cells-ge256 : goal.returns-then-cells-ge256
 returns-then-cells-ge256 c = record-long _ _ _ _ _ (sym c.sizes_ok.ensures ∙ c.if-not-sizes_ok.false) (le-leb _ _ c.if-cells-ge256.true)
 
 pub returns-else-cells-ge256 : goal.returns-else-cells-ge256
-returns-else-cells-ge256 c = table-short _ _ _ _ _ (sym c.sizes_ok.ensures ∙ c.if-not-sizes_ok.false) (lt-leb _ _ c.if-cells-ge256.false)
+returns-else-cells-ge256 c = lt-leb _ _ c.if-cells-ge256.false ∙ table-short _ _ _ _ _ (sym c.sizes_ok.ensures ∙ c.if-not-sizes_ok.false) (lt-leb _ _ c.if-cells-ge256.false)
