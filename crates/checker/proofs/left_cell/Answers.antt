@@ -1,9 +1,9 @@
 -- Past the list's end nothing stands, so that where none is left the cell is 0. Assumes nothing.
-use Rattle.checker.proofs.Loops.{left_there, left-none}
+use mathlib.Core.Path.{ap, ◌∙◌}
+use Rattle.std.specs.Option.{unwrap_or}
+use Rattle.checker.proofs.Loops.{left_there}
 use Rattle.checker.proofs.left_cell.Goals as goal
 
-pub returns-then-p-wishes : goal.returns-then-p-wishes
-returns-then-p-wishes c = left_there _ _ _ _ _ _ c.trainee_part-wishes.ensures c.first_left-p.ensures
-
-pub returns-else-p-wishes : goal.returns-else-p-wishes
-returns-else-p-wishes c = left-none _ _ _ _ _ _ c.trainee_part-wishes.ensures c.first_left-p.ensures c.if-p-wishes.false
+pub returns : goal.returns
+returns c =
+    c.unwrap_or.ensures ∙ ap (λ o. unwrap_or o 0) c.copied.ensures ∙ left_there _ _ _ c.args.i _ _ c.wishes.ensures c.first_left-p.ensures c.get.result c.get.ensures.lookup.0 c.get.ensures.lookup.1
