@@ -30,7 +30,7 @@ pub fn posts_at(heads: &[u16], entries: &[u16], j: usize) -> usize
     ensures { result ≡ posts_of heads.now j }
 {
     let n = tables::trainees_of(heads);
-    tables::posts_of(heads, tables::depot_at(n, j))
+    tables::posts_of(heads, tables::depot_at(n, j)).unwrap()
 }
 
 // The place of x on a list, counted from 1; 0 where it is not there.
