@@ -16,10 +16,11 @@ use Rattle.meaning.specs.Lists.{weigh}
 use Rattle.meaning.specs.Placement.{Kind, Order, Depot, depot, size, depot_size}
 use Rattle.meaning.proofs.Booleans.{some-own, none-some}
 use Rattle.tables.proofs.Tests.{when-goes, when-stops}
-use Rattle.tables.specs.Cells.{missing_cell, weightless, depot_start, order_start}
+use Rattle.tables.specs.Cells.{missing_cell, CellGives, weightless, depot_start, order_start}
+use Rattle.std.specs.Option.{MatchOption}
 use Rattle.tables.specs.Decode.{within, next, when, good_entries, list_from, posts_from, trainee_from, depot_from, kind_from, pair_from, order_from, series_from, trainees_from, depots_from, orders_from, limits, Sides, lists_from, sides_of, orders_of, few_orders_of, placement_with, placement_of}
 use Rattle.tables.specs.Walk.{is_some, end_of, Ends, all_posts}
-use Rattle.std.specs.Prelude.{Some, None, slice_range}
+use Rattle.std.specs.Prelude.{Option as Answer, Some, None, slice_range}
 use Rattle.std.specs.List.{range_with_len, list_all}
 use Rattle.tables.proofs.Series.{two_cells, three-cells, series-count}
 use Rattle.tables.proofs.Round.{sides-count}
@@ -152,6 +153,16 @@ module _ {A : Type 0} (one : ℕ → List ℕ → List ℕ → Option A) (weight
 
 -- ---- posts
 
+when-some : {A : Type 0} (b : Bool) (a : A) → b ≡ is_some (when b (some a))
+unfolding when
+when-some true a = refl
+when-some false a = refl
+
+pub posts-tests : (v : ℕ) (r : Answer ℕ) (b : Bool) {Q : ℕ → Type 0} → CellGives v r → MatchOption r (b ≡ true) Q → ((w : ℕ) → Q w → b ≡ leb w 256) → b ≡ is_some (posts_from v)
+unfolding posts_from
+posts-tests v (Some w) b k m q = rw (ne_eqb v missing_cell k.1, posts_from) (q w m ∙ ap (λ x. leb x 256) k.0 ∙ when-some (leb v 256) (some v))
+posts-tests v None b k m q = rw (eq-eqb v missing_cell k, posts_from) m
+
 pub posts-each : (n : ℕ) (h : List ℕ) (d j : ℕ)
     → list_all (λ j. is_some (posts_from (get_or h (depot_start n j + 2) 0))) (range_with_len j d) ≡ all_posts d (drop (depot_start n j) h)
 unfolding all_posts ◌&◌
@@ -246,11 +257,6 @@ ended w s (some a) {t} h = record { value = a; here = refl; sum = sym (some-own 
 not-ended : {A : Type 0} (w : A → ℕ) (s : ℕ) (o : Option A) → end_of w s o ≡ none → o ≡ none
 not-ended w s none h = refl
 not-ended w s (some a) h = none-some (sym h)
-
-when-some : {A : Type 0} (b : Bool) (a : A) → b ≡ is_some (when b (some a))
-unfolding when
-when-some true a = refl
-when-some false a = refl
 
 -- the entries of a side end no further behind s than a side may have
 abbrev short : ℕ → Option ℕ → Bool

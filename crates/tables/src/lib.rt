@@ -6,15 +6,15 @@ ghost use Rattle.std.proofs.Math.Option.{some};
 ghost use Rattle.meaning.specs.Numbers.{◌&◌};
 ghost use Rattle.meaning.specs.Lists.{weigh};
 ghost use Rattle.meaning.specs.Placement.{size};
-ghost use Rattle.tables.specs.Cells.{trainee_start, depot_start, order_start, part, HeadRoom};
+ghost use Rattle.tables.specs.Cells.{CellGives, trainee_start, depot_start, order_start, part, HeadRoom};
 ghost use Rattle.tables.specs.Decode.{within, good_entries, posts_from, trainee_from, order_from, orders_from, series_from, limits, Sides, lists_from, sides_of, few_orders_of, placement_of};
 ghost use Rattle.tables.specs.Answers.{sized, full_sides, LineOf, said_by, receipt_of, trainee_list, trainee_receipt};
 ghost use Rattle.tables.specs.Walk.{is_some, end_of, Ends, all_posts, trainee_missing, depot_missing};
 
 use meaning::{Fault, Receipt, Refusal};
 
-// A length or posts not received.
-pub const NOT_RECEIVED: usize = 65535;
+// The cell of a length or of posts not received.
+const NOT_RECEIVED: usize = 65535;
 
 // The number in a cell.
 fn cell(table: &[u16], at: usize) -> usize
@@ -22,6 +22,15 @@ fn cell(table: &[u16], at: usize) -> usize
     ensures { result ≡ get_or table.now at 0 }
 {
     table[at] as usize
+}
+
+// The length or the posts in a cell; none where they were not received.
+fn received(table: &[u16], at: usize) -> Option<usize>
+    requires { at < length table.now }
+    ensures { CellGives (get_or table.now at 0) result }
+{
+    let v = cell(table, at);
+    if v == NOT_RECEIVED { None } else { Some(v) }
 }
 
 // The edition.
@@ -72,20 +81,20 @@ pub fn start_of(heads: &[u16], at: usize) -> usize
     cell(heads, at)
 }
 
-// The length of the list whose cells stand at `at`, or NOT_RECEIVED.
-pub fn length_of(heads: &[u16], at: usize) -> usize
+// The length of the list whose cells stand at `at`; none where the list was not received.
+pub fn length_of(heads: &[u16], at: usize) -> Option<usize>
     requires { at + 1 < length heads.now }
-    ensures { result ≡ get_or heads.now (at + 1) 0 }
+    ensures { CellGives (get_or heads.now (at + 1) 0) result }
 {
-    cell(heads, at + 1)
+    received(heads, at + 1)
 }
 
-// The posts of the depot whose cells stand at `at`, or NOT_RECEIVED.
-pub fn posts_of(heads: &[u16], at: usize) -> usize
+// The posts of the depot whose cells stand at `at`; none where they were not received.
+pub fn posts_of(heads: &[u16], at: usize) -> Option<usize>
     requires { at + 2 < length heads.now }
-    ensures { result ≡ get_or heads.now (at + 2) 0 }
+    ensures { CellGives (get_or heads.now (at + 2) 0) result }
 {
-    cell(heads, at + 2)
+    received(heads, at + 2)
 }
 
 // The one whom a list names at place p.
@@ -142,7 +151,7 @@ pub fn list_at<'a>(heads: &[u16], entries: &'a [u16], at: usize) -> &'a [u16]
     ensures { result.now ≡ part heads.now entries.now at }
 {
     let start = start_of(heads, at);
-    let end = start + length_of(heads, at);
+    let end = start + cell(heads, at + 1);
     &entries[start..end]
 }
 
@@ -185,10 +194,9 @@ fn list_end(heads: &[u16], entries: &[u16], at: usize, s: usize, hi: usize) -> O
     if start_of(heads, at) != s {
         return None;
     }
-    let v = length_of(heads, at);
-    if v == NOT_RECEIVED {
+    let Some(v) = length_of(heads, at) else {
         return Some(s);
-    }
+    };
     let to = s + v;
     let list = entries.get(s..to)?;
     if v <= hi && good_entries(list, hi) {
@@ -218,11 +226,12 @@ fn lists_end(
     Some(s)
 }
 
-// Whether posts were received in range, or not received.
-fn posts_ok(v: usize) -> bool
-    ensures { result ≡ is_some (posts_from v) }
+// Whether the posts of the depot whose cells stand at `at` are in range, or not received.
+fn posts_ok(heads: &[u16], at: usize) -> bool
+    requires { at + 2 < length heads.now }
+    ensures { result ≡ is_some (posts_from (get_or heads.now (at + 2) 0)) }
 {
-    v == NOT_RECEIVED || v <= 256
+    posts_of(heads, at).is_none_or(|v| v <= 256)
 }
 
 // Whether the posts of each of m depots are in range, or not received.
@@ -230,7 +239,7 @@ fn all_posts_ok(heads: &[u16], n: usize, m: usize) -> bool
     requires { (3 + 2 * n + 3 * m ≤ length heads.now) × (n ≤ 256) × (m ≤ 64) }
     ensures { result ≡ all_posts m (drop (3 + 2 * n) heads.now) }
 {
-    (1..m + 1).all(|j| posts_ok(posts_of(heads, depot_at(n, j))))
+    (1..m + 1).all(|j| posts_ok(heads, depot_at(n, j)))
 }
 
 // Whether the edition is this reader's, and n and m are in range.
@@ -305,7 +314,7 @@ fn trainee_lacks(heads: &[u16], i: usize) -> bool
     requires { (2 * i + 2 < length heads.now) × (i ≤ 256) }
     ensures { result ≡ trainee_missing heads.now i }
 {
-    length_of(heads, trainee_at(i)) == NOT_RECEIVED
+    length_of(heads, trainee_at(i)).is_none()
 }
 
 // Whether depot j's posts or list were not received.
@@ -314,7 +323,7 @@ fn depot_lacks(heads: &[u16], n: usize, j: usize) -> bool
     ensures { result ≡ depot_missing heads.now n j }
 {
     let at = depot_at(n, j);
-    posts_of(heads, at) == NOT_RECEIVED || length_of(heads, at) == NOT_RECEIVED
+    posts_of(heads, at).is_none() || length_of(heads, at).is_none()
 }
 
 // The line that number 7 gives for heads that hold a placement's, whatever the entries beside them; none where all was received (`whole-at-zero`,
@@ -346,7 +355,7 @@ fn receipt_in(heads: &[u16], i: usize) -> Receipt
     if !in_range(i, trainees_of(heads)) {
         return Receipt::OutOfRange;
     }
-    if length_of(heads, trainee_at(i)) == NOT_RECEIVED {
+    if length_of(heads, trainee_at(i)).is_none() {
         return Receipt::NotReceived;
     }
     Receipt::Received
