@@ -19,7 +19,6 @@ use Rattle.ranks.specs.View.{n_of, wishes_of, market_of}
 use Rattle.reasons.specs.Rows.{standing_of}
 use Rattle.strikes.specs.Cells.{strikes_in}
 use Rattle.strikes.proofs.Encoding.{count-strikes}
-use Rattle.strikes.proofs.Turns.{holds}
 use Rattle.meaning.specs.declared.Strike.{Strike}
 
 module _ {A : Type 0} (visit : ℕ → ℕ → A → A) (i : ℕ) (l : List ℕ) (p : ℕ) (a whole_row : A) (inv : whole_row ≡ row_by visit i (drop p l) a) where

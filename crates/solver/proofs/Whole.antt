@@ -43,7 +43,6 @@ use Rattle.reasons.proofs.Starting.{start-holds}
 use Rattle.reasons.proofs.Noting.{orders-same, standing-noted, noted-none}
 use Rattle.strikes.specs.Cells.{strikes_in}
 use Rattle.strikes.proofs.Encoding.{count-strikes}
-use Rattle.strikes.proofs.Turns.{holds}
 use Rattle.std.specs.Prelude.{Option as Found, Some, None}
 use Rattle.meaning.specs.declared.Ending.{Ending}
 
