@@ -26,27 +26,27 @@ use Rattle.reasons.specs.Rows.{standing_of, OrderRows}
 use Rattle.reasons.specs.Orders.{order_in, orders_in, FullOrders, Noted}
 use Rattle.reasons.proofs.Noting.{noted-none, standing-noted}
 use Rattle.strikes.specs.Cells.{strikes_in}
-use Rattle.std.specs.Prelude.{Err}
+use Rattle.std.specs.Prelude.{Err, Result, Ok}
 use Rattle.meaning.specs.declared.Ruling.{Ruling}
-use Rattle.meaning.specs.declared.Checked.{Checked}
-use Rattle.meaning.specs.declared.Checked.TheVariants.{Accepted, NotAllowed}
+use Rattle.meaning.specs.declared.Rejection.{Rejection}
+use Rattle.meaning.specs.declared.Rejection.TheVariants.{NotAllowed}
 
 module _ (h e holds bars : List ℕ) (r : Ruling) (table cells : List ℕ) (count : ℕ) (ec : count ≡ r.strikes) (rows : List ℕ) where
   -- a strike that isn't allowed is the answer
-  pub check-stops : (k : ℕ) → ReplaySays h e holds bars cells count rows (Err k) → CheckSays h e holds bars r table cells (NotAllowed k)
-  check-stops k says os stands =
+  pub check-stops : (x : Rejection) → ReplaySays h e holds bars cells count rows (Err x) → CheckSays h e holds bars r table cells (Err x)
+  check-stops x says os stands =
       sym (ap (λ (c : ℕ). answer_from h e holds bars os (outcome_in (n_of h) r.ending table) [] (strikes_in cells c) 1) (sym ec) ∙ says os (outcome_in (n_of h) r.ending table))
 
   module _ (all-going : Going h e holds bars cells count count rows) where
     -- after the last strike the ending is
     pub check-ends : FullTables h e → OrderRows h holds bars → NamesTrainee (n_of h) r.ending → (b : Bool) → b ≡ ends_in h e holds bars rows r.ending table
-        → CheckSays h e holds bars r table cells (step_by (r.strikes + 1) b Accepted)
+        → CheckSays h e holds bars r table cells (step_by (r.strikes + 1) b (Ok tt))
     check-ends ft orders named b eb os stands =
         let S = struck nothing (strikes_in cells count) in
         let f : b ≡ outcome_fits (market_of h e) (wishes_of h e) (standing_of h holds bars) os S (outcome_in (n_of h) r.ending table) =
         eb ∙ ending-same h e ft holds bars orders os stands S rows all-going.rows_hold r.ending table named
         ∙ ap (λ (O : Standing). outcome_fits (market_of h e) (wishes_of h e) O os S (outcome_in (n_of h) r.ending table)) (sym stands) in
-        rw (← ec) (sym (going-ends h e holds bars cells count rows all-going os (outcome_in (n_of h) r.ending table) ∙ ap (λ (t : Bool). step_by (count + 1) t Accepted) (sym f)))
+        rw (← ec) (sym (going-ends h e holds bars cells count rows all-going os (outcome_in (n_of h) r.ending table) ∙ ap (λ (t : Bool). step_by (count + 1) t (Ok tt)) (sym f)))
 
 -- ---- the orders of a table
 
@@ -59,7 +59,7 @@ pub table-stands : (h o holds bars : List ℕ) → FullOrders h o → Noted h o 
 table-stands h o holds bars fo noted = standing-noted h o holds bars (orders_of_table o) refl (orders-fine h o fo (get_or o 0 0) (omega arith)) noted
 
 -- the answer for the orders of the table
-pub checks-in : (h e o holds bars : List ℕ) (r : Ruling) (table cells : List ℕ) (c : Checked) → FullOrders h o → Noted h o (get_or o 0 0) holds bars
+pub checks-in : (h e o holds bars : List ℕ) (r : Ruling) (table cells : List ℕ) (c : Result (Unit {0}) Rejection) → FullOrders h o → Noted h o (get_or o 0 0) holds bars
     → CheckSays h e holds bars r table cells c → c ≡ check_in h e o r table cells
 unfolding check_in
 checks-in h e o holds bars r table cells c fo noted says =

@@ -233,7 +233,6 @@ not-stable Tested.Stable n = absurd (n refl)
 not-stable (Tested.NotMutual i) n = refl
 not-stable (Tested.OverPosts j) n = refl
 not-stable (Tested.Blocking i j) n = refl
-not-stable (Tested.Refused r) n = refl
 
 stable-same : (h e : List ℕ) → FullTables h e → (M : Table) → tells_stable (test_by (market_of h e) (wishes_of h e) M) ≡ stable? (market_of h e) M
 unfolding tells_stable market_of

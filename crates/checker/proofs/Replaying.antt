@@ -15,6 +15,7 @@ use lib.ListN.{length-set, length, get_or, set}
 use lib.Seq.{get_or-set_same, get_or-set_other}
 use lib.Dec.{ltb}
 use borrow.Author.Tests.{le-ltb}
+use Rattle.std.specs.Prelude.{Result, Ok, Err}
 use Rattle.checker.specs.Step.{may_strike, rows_with}
 use Rattle.checker.specs.Turns.{strikes_from, answer_from, Going}
 use Rattle.checker.proofs.Ways.{open-listed, step-opened}
@@ -35,7 +36,7 @@ use Rattle.ranks.specs.View.{n_of, wishes_of, market_of, Once, FullTables}
 use Rattle.reasons.specs.Rows.{marked_at, RowsHold, standing_of, OrderRows}
 use Rattle.strikes.specs.Cells.{strike_at, strikes_in}
 use Rattle.meaning.specs.declared.Strike.{Strike}
-use Rattle.meaning.specs.declared.Checked.TheVariants.{Accepted, NotAllowed}
+use Rattle.meaning.specs.declared.Rejection.TheVariants.{NotAllowed}
 
 struck-other : (S₀ : Struck) (rec : List Strike) (s : Strike) (k j : ℕ) → (s.trainee ≡ k → s.depot ≡ j → ⊥) → struck S₀ (rec ++ (s ∷ [])) k j ≡ struck S₀ rec k j
 struck-other S₀ rec s k j n = iff
@@ -113,7 +114,7 @@ module _ (h e holds bars cells : List ℕ) (count : ℕ) where
   -- after the last strike the ending decides
   pub going-ends : (rows : List ℕ) → Going h e holds bars cells count count rows → (os : List Order) (out : Outcome)
       → answer_from h e holds bars os out [] (strikes_in cells count) 1
-      ≡ step_by (count + 1) (outcome_fits (market_of h e) (wishes_of h e) (standing_of h holds bars) os (struck nothing (strikes_in cells count)) out) Accepted
+      ≡ step_by (count + 1) (outcome_fits (market_of h e) (wishes_of h e) (standing_of h holds bars) os (struck nothing (strikes_in cells count)) out) (Ok tt)
   unfolding strikes_from check_from
   going-ends rows g os out = let z : count - count ≡ 0 = omega arith in g.onward os out ∙ rw (z, strikes_from, check_from)
 
@@ -127,7 +128,7 @@ module _ (h e holds bars cells : List ℕ) (count : ℕ) where
         ∙ ap (λ x. allowed_strike (market_of h e) (standing_of h holds bars) (struck nothing (strikes_in cells k)) x) es
 
     -- a strike that isn't allowed settles the answer
-    pub going-stops : may_strike h e holds bars rows s ≡ false → (os : List Order) (out : Outcome) → answer_from h e holds bars os out [] (strikes_in cells count) 1 ≡ NotAllowed (k + 1)
+    pub going-stops : may_strike h e holds bars rows s ≡ false → (os : List Order) (out : Outcome) → answer_from h e holds bars os out [] (strikes_in cells count) 1 ≡ Err (NotAllowed (k + 1))
     unfolding strikes_from check_from
     going-stops u os out = g.onward os out ∙ rw (left-now, strikes_from, check_from, sym step_is ∙ u)
 

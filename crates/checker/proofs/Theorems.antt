@@ -7,6 +7,7 @@ use mathlib.Core.Path.{◌≡◌, ◌∙◌}
 use mathlib.Core.Option.{some}
 use mathlib.Core.List.{List}
 use lib.ListN.{length}
+use Rattle.std.specs.Prelude.{Result, Ok, Err}
 use Rattle.checker.specs.Check.{check_in}
 use Rattle.rulings.specs.Held.{ruling_in}
 use Rattle.strikes.specs.Cells.{strikes_in}
@@ -24,7 +25,6 @@ use Rattle.ranks.specs.View.{n_of}
 use Rattle.ranks.proofs.Held.{market-held, lists-held}
 use Rattle.reasons.proofs.Noting.{orders-same}
 use Rattle.meaning.specs.declared.Ruling.{Ruling}
-use Rattle.meaning.specs.declared.Checked.TheVariants.{Accepted}
 
 module _ (h e o : List ℕ) (p : Placement) (F : Full) (held_by : placement_of h e o ≡ some p) (its_full : full p ≡ whole F) where
   -- a ruling of as many trainees, with its table and the cells of its strikes
@@ -41,5 +41,5 @@ module _ (h e o : List ℕ) (p : Placement) (F : Full) (held_by : placement_of h
     cells-keep = rw checks-placement (checker-keeps p (legal h e o p F held_by its_full) F its_full (ruling_in r table (strikes_in cells r.strikes)))
 
     -- T14: the solver's own ruling is accepted
-    pub cells-solved : solve F p.orders ≡ some (ruling_in r table (strikes_in cells r.strikes)) → check_in h e o r table cells ≡ Accepted
+    pub cells-solved : solve F p.orders ≡ some (ruling_in r table (strikes_in cells r.strikes)) → check_in h e o r table cells ≡ Ok tt
     cells-solved s = checks-placement ∙ solved-accepted F (legal-full p F (legal h e o p F held_by its_full) its_full) p.orders (legal-orders p F (legal h e o p F held_by its_full) its_full) (ruling_in r table (strikes_in cells r.strikes)) s

@@ -1,13 +1,13 @@
 -- The checker's answer to a ruling in plain cells, on what full tables mean.
 -- Assumes nothing.
-use Rattle.std.specs.Prelude.{ℕ, ◌*◌, ◌≤◌, ◌≡◌, true, List, [], length, get_or}
+use Rattle.std.specs.Prelude.{ℕ, ◌*◌, ◌≤◌, ◌≡◌, true, List, [], length, get_or, Result, Ok, Err}
 use Rattle.std.proofs.Math.Option.{some}
 use Rattle.meaning.specs.Placement.{Order, Placement}
 use Rattle.meaning.specs.Full.{Full, whole, full}
 use Rattle.meaning.specs.Market.{standing}
 use Rattle.meaning.specs.Checker.{check_from}
 use Rattle.meaning.specs.declared.Ruling.{Ruling}
-use Rattle.meaning.specs.declared.Checked.{Checked}
+use Rattle.meaning.specs.declared.Rejection.{Rejection}
 use Rattle.tables.specs.Answers.{sized}
 use Rattle.tables.specs.Decode.{placement_of}
 use Rattle.ranks.specs.View.{n_of, wishes_of, market_of}
@@ -40,11 +40,11 @@ abbrev pub orders_of_table : List ℕ → List Order
 orders_of_table o = orders_in o (get_or o 0 0)
 
 -- the meaning's answer on what the tables mean; that this is its answer for the placement that they hold is proved
-unfoldable pub check_in : List ℕ → List ℕ → List ℕ → Ruling → List ℕ → List ℕ → Checked
+unfoldable pub check_in : List ℕ → List ℕ → List ℕ → Ruling → List ℕ → List ℕ → Result (Unit {0}) Rejection
 check_in h e o r table cells =
     check_from (market_of h e) (wishes_of h e) (standing (orders_of_table o)) (orders_of_table o) (outcome_in (n_of h) r.ending table) [] (strikes_in cells r.strikes) 1
 
 -- the answer for all orders that the order rows stand for
-abbrev pub CheckSays : List ℕ → List ℕ → List ℕ → List ℕ → Ruling → List ℕ → List ℕ → Checked → Type 0
+abbrev pub CheckSays : List ℕ → List ℕ → List ℕ → List ℕ → Ruling → List ℕ → List ℕ → Result (Unit {0}) Rejection → Type 0
 CheckSays h e holds bars r table cells c =
     (os : List Order) → standing_of h holds bars ≡ standing os → c ≡ answer_from h e holds bars os (outcome_in (n_of h) r.ending table) [] (strikes_in cells r.strikes) 1

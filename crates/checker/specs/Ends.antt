@@ -32,7 +32,6 @@ tells_stable Tested.Stable = true
 tells_stable (Tested.NotMutual i) = false
 tells_stable (Tested.OverPosts j) = false
 tells_stable (Tested.Blocking i j) = false
-tells_stable (Tested.Refused r) = false
 
 -- ---- held and barred pairs
 

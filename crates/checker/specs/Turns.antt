@@ -7,8 +7,7 @@ use Rattle.meaning.specs.Strikes.{nothing, struck}
 use Rattle.meaning.specs.Endings.{Outcome}
 use Rattle.meaning.specs.Checker.{check_from}
 use Rattle.meaning.specs.declared.Strike.{Strike}
-use Rattle.meaning.specs.declared.Checked.{Checked}
-use Rattle.meaning.specs.declared.Checked.TheVariants.{NotAllowed}
+use Rattle.meaning.specs.declared.Rejection.{Rejection}
 use Rattle.ranks.specs.View.{n_of, wishes_of, market_of}
 use Rattle.reasons.specs.Rows.{RowsHold, standing_of}
 use Rattle.strikes.specs.Cells.{strike_at, strikes_in}
@@ -29,7 +28,7 @@ rows_after true next rows = next
 rows_after false next rows = rows
 
 -- the checker's answer on what tables and order rows mean: these strikes after the record in hand, the first of them step k
-abbrev pub answer_from : List ℕ → List ℕ → List ℕ → List ℕ → List Order → Outcome → List Strike → List Strike → ℕ → Checked
+abbrev pub answer_from : List ℕ → List ℕ → List ℕ → List ℕ → List Order → Outcome → List Strike → List Strike → ℕ → Result (Unit {0}) Rejection
 answer_from h e holds bars os out rec xs k = check_from (market_of h e) (wishes_of h e) (standing_of h holds bars) os out rec xs k
 
 -- the first k strikes are allowed in turn, the rows hold what they strike, and the answer comes from what follows
@@ -39,7 +38,7 @@ pub record Going (h e holds bars cells : List ℕ) (count k : ℕ) (rows : List 
   pub onward : (os : List Order) (out : Outcome)
       → answer_from h e holds bars os out [] (strikes_in cells count) 1 ≡ answer_from h e holds bars os out (strikes_in cells k) (strikes_from cells (count - k) k) (k + 1)
 
--- what a replay says: all strikes are allowed, or k is the first step that isn't
-abbrev pub ReplaySays : List ℕ → List ℕ → List ℕ → List ℕ → List ℕ → ℕ → List ℕ → Result (Unit {0}) ℕ → Type 0
+-- what a replay says: all strikes are allowed, or the answer is that one isn't
+abbrev pub ReplaySays : List ℕ → List ℕ → List ℕ → List ℕ → List ℕ → ℕ → List ℕ → Result (Unit {0}) Rejection → Type 0
 ReplaySays h e holds bars cells count rows (Ok _) = Going h e holds bars cells count count rows
-ReplaySays h e holds bars cells count rows (Err k) = (os : List Order) (out : Outcome) → answer_from h e holds bars os out [] (strikes_in cells count) 1 ≡ NotAllowed k
+ReplaySays h e holds bars cells count rows (Err x) = (os : List Order) (out : Outcome) → answer_from h e holds bars os out [] (strikes_in cells count) 1 ≡ Err x

@@ -13,7 +13,7 @@ ghost use Rattle.checker.specs.Ends.{left_cell, left_cells, obeys_rows, all_obey
 ghost use Rattle.checker.specs.Check.{FullPlacement, RulingCells, CheckSays, check_in};
 ghost use Rattle.checker.specs.Turns.{TraineesIn, rows_after, Going, ReplaySays};
 
-use meaning::{Checked, Ending, Reason, Ruling, Strike, Tested};
+use meaning::{Ending, Reason, Rejection, Ruling, Strike, Tested};
 use ranks::Market;
 use reasons::{Far, Orders, Rows, Standing};
 use stability::Trial;
@@ -129,7 +129,12 @@ fn strike_one(standing: &Standing, marks: &mut [u64], s: Strike) -> bool
 }
 
 // Replays the strikes in turn, up to the first that isn't allowed, whose number it gives.
-fn replay(standing: &Standing, marks: &mut [u64], cells: &[u16], count: usize) -> Result<(), u16>
+fn replay(
+    standing: &Standing,
+    marks: &mut [u64],
+    cells: &[u16],
+    count: usize,
+) -> Result<(), Rejection>
     requires { TraineesIn (n_of standing.now.market.heads.now) cells.now count
         × Going standing.now.market.heads.now standing.now.market.entries.now standing.now.holds.now standing.now.bars.now cells.now count 0 marks.old
         × (4 * count ≤ length cells.now) × (count ≤ 4096) }
@@ -137,7 +142,7 @@ fn replay(standing: &Standing, marks: &mut [u64], cells: &[u16], count: usize) -
 {
     for k in 0..count {
         if !strike_one(standing, marks, strikes::strike_in(cells, k)) {
-            return Err((k + 1) as u16);
+            return Err(Rejection::NotAllowed((k + 1) as u16));
         }
     }
     Ok(())
@@ -281,21 +286,16 @@ fn check_rows(
     ruling: Ruling,
     table: &[u16],
     cells: &[u16],
-) -> Checked
+) -> Result<(), Rejection>
     requires { RulingCells standing.now.market.heads.now ruling table.now cells.now
         × Going standing.now.market.heads.now standing.now.market.entries.now standing.now.holds.now standing.now.bars.now cells.now ruling.strikes 0 marks.old }
     ensures { CheckSays standing.now.market.heads.now standing.now.market.entries.now standing.now.holds.now standing.now.bars.now ruling table.now cells.now result }
 {
-    let strikes = ruling.strikes;
-    match replay(standing, marks, cells, usize::from(strikes)) {
-        Err(k) => Checked::NotAllowed(k),
-        Ok(()) => {
-            if ending_fits(standing, marks, ruling.ending, table) {
-                Checked::Accepted
-            } else {
-                Checked::NotAllowed(strikes + 1)
-            }
-        }
+    replay(standing, marks, cells, usize::from(ruling.strikes))?;
+    if ending_fits(standing, marks, ruling.ending, table) {
+        Ok(())
+    } else {
+        Err(Rejection::NotAllowed(ruling.strikes + 1))
     }
 }
 
@@ -307,7 +307,7 @@ pub fn check_cells<'a>(
     ruling: Ruling,
     table: &[u16],
     cells: &[u16],
-) -> Checked
+) -> Result<(), Rejection>
     requires { FullPlacement heads.now entries.now orders.now × RulingCells heads.now ruling table.now cells.now }
     ensures { result ≡ check_in heads.now entries.now orders.now ruling table.now cells.now }
 {
