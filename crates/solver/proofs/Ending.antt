@@ -104,21 +104,21 @@ module _ (h e : List ℕ) (ft : FullTables h e) (S : Struck) (rows : List ℕ) (
 
 -- ---- a held pair is broken
 
-module _ (h e rows : List ℕ) (ft : FullTables h e) (hold : RowsHold (market_of h e) (wishes_of h e) (struck_in h e rows) rows) (i j p : ℕ) (r : In (n_of h) i)
-    (w : List ℕ) (ew : w ≡ wishes_of h e i) (ep : p ≡ place w j) where
-  at-wish : place (wishes_of h e i) j ≡ p
-  at-wish = ap (λ (l : List ℕ). place l j) (sym ew) ∙ sym ep
+module _ (h e rows : List ℕ) (ft : FullTables h e) (hold : RowsHold (market_of h e) (wishes_of h e) (struck_in h e rows) rows) (i j : ℕ) (r : In (n_of h) i)
+    (w : List ℕ) (ew : w ≡ wishes_of h e i) where
+  at-wish : (q : ℕ) → q ≡ place w j → place (wishes_of h e i) j ≡ q
+  at-wish q eq = ap (λ (l : List ℕ). place l j) (sym ew) ∙ sym eq
 
-  pub broken-unranked : p ≡ 0 → true ≡ broken_in h e rows i j
+  pub broken-unranked : 0 ≡ place w j → true ≡ broken_in h e rows i j
   unfolding broken_in left? mutual? market_of ◌&◌
-  broken-unranked z = rw (at-wish, z)
+  broken-unranked z = rw (at-wish 0 z)
 
-  pub broken-marked : (p ≡ 0 → ⊥) → is_marked (get_or rows i 0) (p - 1) ≡ broken_in h e rows i j
+  pub broken-marked : (p : ℕ) → suc p ≡ place w j → is_marked (get_or rows i 0) p ≡ broken_in h e rows i j
   unfolding broken_in
-  broken-marked n = mark_of h e ft (struck_in h e rows) rows hold i j (p - 1) r (omega (arith, at-wish, n))
+  broken-marked p ep = mark_of h e ft (struck_in h e rows) rows hold i j p r (at-wish (suc p) ep)
 
-  pub wish-inside : p ≤ 64
-  wish-inside = omega (arith, at-wish, place-le (wishes_of h e i) j, ft.trainee_short i)
+  pub wish-inside : (p : ℕ) → suc p ≡ place w j → p < 64
+  wish-inside p ep = omega (arith, at-wish (suc p) ep, place-le (wishes_of h e i) j, ft.trainee_short i)
 
 -- ---- room at a depot
 

@@ -3,7 +3,9 @@
 use Prim.Native.Nat.{ℕ, zero, suc, ◌+◌, ◌-◌, ◌≤◌, ◌<◌}
 use mathlib.Core.Path.{◌≡◌, refl, sym, ap, ap₂, ◌∙◌, subst}
 use mathlib.Core.Logic.{⊎_elim}
-use mathlib.Core.Bool.{true, false}
+use mathlib.Core.Bool.{Bool, true, false}
+use lib.Dec.{eqb}
+use borrow.Author.Tests.{eqb-true, eqb-false}
 use mathlib.Core.Option.{Option, none, some}
 use mathlib.Core.List.{List, [], ◌∷◌, ◌++◌}
 use native.Mathlib.Omega.{arith}
@@ -24,9 +26,8 @@ use Rattle.rows.specs.Left.{first_place_left}
 use Rattle.tables.specs.Cells.{laid, order_start}
 use Rattle.ranks.specs.View.{n_of, wishes_of, market_of, FullTables}
 use Rattle.reasons.specs.Rows.{RowsHold}
-use Rattle.reasons.specs.Orders.{kind_of, order_in, trainee_in, depot_in, orders_in, FullOrders}
-use Rattle.reasons.specs.Reasons.{number_or}
-use Rattle.solver.specs.declared.Held.{Held}
+use Rattle.reasons.specs.Orders.{kind_of, order_in, trainee_in, depot_in, orders_in}
+use Rattle.std.specs.Prelude.{Some, None}
 
 -- ---- the first broken hold
 
@@ -67,19 +68,16 @@ barred-kind (suc c) n = refl
 blank-order : Order
 blank-order = record { kind = held; trainee = 0; depot = 0 }
 
-module _ (h e o rows : List ℕ) (k at i j : ℕ) (ea : at ≡ order_start k) where
-  pub not-a-hold : (get_or o at 0 ≡ 0 → ⊥) → false ≡ broken? (market_of h e) (struck_in h e rows) (order_in o k)
+module _ (h e o rows : List ℕ) (k : ℕ) (b : Bool) (eb : b ≡ eqb (get_or o (order_start k) 0) 0) where
+  pub not-a-hold : b ≡ false → b ≡ broken? (market_of h e) (struck_in h e rows) (order_in o k)
   unfolding broken? order_in ◌&◌
-  not-a-hold n = rw (barred-kind (get_or o (order_start k) 0) (λ z. n (rw ea z)))
+  not-a-hold u = u ∙ rw (barred-kind (get_or o (order_start k) 0) (eqb-false _ _ (sym eb ∙ u)))
 
-  pub a-hold : get_or o at 0 ≡ 0 → i ≡ get_or o (at + 1) 0 → j ≡ get_or o (at + 2) 0 → broken_in h e rows i j ≡ broken? (market_of h e) (struck_in h e rows) (order_in o k)
+  pub a-hold : b ≡ true → (i j : ℕ) → i ≡ trainee_in o k → j ≡ depot_in o k → broken_in h e rows i j ≡ broken? (market_of h e) (struck_in h e rows) (order_in o k)
   unfolding broken? order_in broken_in ◌&◌
-  a-hold z ei ej =
-      let t : same_kind held (kind_of (get_or o (order_start k) 0)) ≡ true = held-kind (get_or o (order_start k) 0) (rw (← ea) z) in
-      rw (t, ei, ej, ea)
-
-  pub hold-trainee : FullOrders h o → k < get_or o 0 0 → i ≡ get_or o (at + 1) 0 → In (n_of h) i
-  hold-trainee fo l ei = rw (ei, ea) (fo.trainee k l)
+  a-hold t i j ei ej =
+      let s : same_kind held (kind_of (get_or o (order_start k) 0)) ≡ true = held-kind (get_or o (order_start k) 0) (eqb-true _ _ (sym eb ∙ t)) in
+      rw (s, ei, ej)
 
 module _ (h e o rows : List ℕ) (c k : ℕ) (inv : first_broken (market_of h e) (struck_in h e rows) (orders_in o c) ≡ first_broken (market_of h e) (struck_in h e rows) (drop k (orders_in o c))) where
   broken-first : k < c → broken? (market_of h e) (struck_in h e rows) (order_in o k) ≡ true → first_broken (market_of h e) (struck_in h e rows) (drop k (orders_in o c)) ≡ some (order_in o k)
@@ -87,16 +85,16 @@ module _ (h e o rows : List ℕ) (c k : ℕ) (inv : first_broken (market_of h e)
   broken-first l t = rw (drop-cons (orders_in o c) k blank-order (omega (arith, l, orders-length o c)), orders-nth o c k blank-order l, t, first_broken) (ap some (orders-nth o c k blank-order l))
 
   pub broken-hit : k < c → broken? (market_of h e) (struck_in h e rows) (order_in o k) ≡ true → (i j : ℕ) → i ≡ trainee_in o k → j ≡ depot_in o k
-      → Held.Broken i j ≡ broken_pair (first_broken (market_of h e) (struck_in h e rows) (orders_in o c))
+      → Some (i, j) ≡ broken_pair (first_broken (market_of h e) (struck_in h e rows) (orders_in o c))
   unfolding broken_pair order_in
-  broken-hit l t i j ei ej = ap₂ Held.Broken ei ej ∙ sym (ap broken_pair (inv ∙ broken-first l t))
+  broken-hit l t i j ei ej = ap₂ (λ (a b : ℕ). Some (a, b)) ei ej ∙ sym (ap broken_pair (inv ∙ broken-first l t))
 
   pub broken-on : k < c → broken? (market_of h e) (struck_in h e rows) (order_in o k) ≡ false
       → first_broken (market_of h e) (struck_in h e rows) (orders_in o c) ≡ first_broken (market_of h e) (struck_in h e rows) (drop (k + 1) (orders_in o c))
   unfolding first_broken
   broken-on l u = inv ∙ rw (drop-cons (orders_in o c) k blank-order (omega (arith, l, orders-length o c)), orders-nth o c k blank-order l, u, first_broken, add-one)
 
-  pub broken-end : c ≤ k → Held.Unbroken ≡ broken_pair (first_broken (market_of h e) (struck_in h e rows) (orders_in o c))
+  pub broken-end : c ≤ k → None ≡ broken_pair (first_broken (market_of h e) (struck_in h e rows) (orders_in o c))
   unfolding first_broken broken_pair
   broken-end l =
       let z : drop k (orders_in o c) ≡ [] = drop_of_length-le (orders_in o c) {i = k} (omega (arith, l, orders-length o c)) in
@@ -157,26 +155,22 @@ laid-all h e rows old table ft hold fits k ek inv = ext_get_or 0 table _ lengths
 
 -- ---- room
 
-pub room-more : (h e rows : List ℕ) (L : Table) (m j i : ℕ) (whole-search : Option Outcome) → j ≤ m → whole-search ≡ room_from (market_of h e) (struck_in h e rows) L (m + 1 - j) j
-    → number_or i ≡ smallest (n_of h) (λ i. room? (market_of h e) (struck_in h e rows) L i j) → i ≡ 0 → whole-search ≡ room_from (market_of h e) (struck_in h e rows) L (m + 1 - (j + 1)) (j + 1)
-unfolding room_from room_or number_or market_of
-room-more h e rows L m j i whole-search l inv en z =
-    let d : m + 1 - j ≡ suc (m + 1 - (j + 1)) = omega arith in
-    let s : smallest (n_of h) (λ i. room? (market_of h e) (struck_in h e rows) L i j) ≡ none = sym en ∙ ap number_or z in
-    inv ∙ rw (d, s) (ap (room_from (market_of h e) (struck_in h e rows) L (m + 1 - (j + 1))) (sym (add-one j)))
+module _ (h e rows : List ℕ) (L : Table) (m j : ℕ) (whole-search : Option Outcome) (l : j ≤ m) (inv : whole-search ≡ room_from (market_of h e) (struck_in h e rows) L (m + 1 - j) j)
+    (o : Option ℕ) (eo : o ≡ smallest (n_of h) (λ i. room? (market_of h e) (struck_in h e rows) L i j)) where
+  one-more : m + 1 - j ≡ suc (m + 1 - (j + 1))
+  one-more = omega arith
 
-number-some : (i : ℕ) → (i ≡ 0 → ⊥) → number_or i ≡ some i
-unfolding number_or
-number-some zero n = absurd (n refl)
-number-some (suc i) n = refl
+  pub room-more : o ≡ none → whole-search ≡ room_from (market_of h e) (struck_in h e rows) L (m + 1 - (j + 1)) (j + 1)
+  unfolding room_from room_or market_of
+  room-more z =
+      let s : smallest (n_of h) (λ i. room? (market_of h e) (struck_in h e rows) L i j) ≡ none = sym eo ∙ z in
+      inv ∙ rw (one-more, s) (ap (room_from (market_of h e) (struck_in h e rows) L (m + 1 - (j + 1))) (sym (add-one j)))
 
-pub room-hit : (h e rows : List ℕ) (L : Table) (m j i : ℕ) (whole-search : Option Outcome) → j ≤ m → whole-search ≡ room_from (market_of h e) (struck_in h e rows) L (m + 1 - j) j
-    → number_or i ≡ smallest (n_of h) (λ i. room? (market_of h e) (struck_in h e rows) L i j) → (i ≡ 0 → ⊥) → some (none_room i j) ≡ whole-search
-unfolding room_from room_or market_of
-room-hit h e rows L m j i whole-search l inv en n =
-    let d : m + 1 - j ≡ suc (m + 1 - (j + 1)) = omega arith in
-    let s : smallest (n_of h) (λ i. room? (market_of h e) (struck_in h e rows) L i j) ≡ some i = sym en ∙ number-some i n in
-    sym (inv ∙ rw (d, s))
+  pub room-hit : (i : ℕ) → o ≡ some i → some (none_room i j) ≡ whole-search
+  unfolding room_from room_or market_of
+  room-hit i z =
+      let s : smallest (n_of h) (λ i. room? (market_of h e) (struck_in h e rows) L i j) ≡ some i = sym eo ∙ z in
+      sym (inv ∙ rw (one-more, s))
 
 pub room-end : (h e rows : List ℕ) (L : Table) (m j : ℕ) (whole-search : Option Outcome) → m < j → whole-search ≡ room_from (market_of h e) (struck_in h e rows) L (m + 1 - j) j → none ≡ whole-search
 unfolding room_from

@@ -26,8 +26,8 @@ use Rattle.meaning.proofs.Records.{struck-last, struck-keeps, struck-new}
 use Rattle.meaning.proofs.Solver.{keeps, bound}
 use Rattle.rows.specs.Marks.{is_marked, with_mark}
 use Rattle.rows.proofs.Marking.{marked-at-place, marked-elsewhere}
-use Rattle.ranks.specs.View.{n_of, m_of, wishes_of, ranking_of, market_of, Once, FullTables}
-use Rattle.reasons.specs.Rows.{marked_at, RowsHold, standing_of, OrderRows}
+use Rattle.ranks.specs.View.{n_of, m_of, wishes_of, ranking_of, market_of, Once}
+use Rattle.reasons.specs.Rows.{marked_at, RowsHold, standing_of}
 use Rattle.reasons.specs.Reasons.{choice_in}
 use Rattle.reasons.proofs.Choosing.{choice-same}
 use Rattle.strikes.specs.Cells.{strikes_in, cells_with}
@@ -123,8 +123,8 @@ module _ (h e holds bars rows cells : List ℕ) (u i p : ℕ) (g : Going h e hol
     j-ranks-i = (left-pair K (struck nothing rec) i j may).ranked
 
     -- what the choice asks
-    pub choose-ready : (d : ℕ) → d ≡ j → FullTables h e × OrderRows h holds bars × In (n_of h) i × In (m_of h) d × (0 < place (ranking_of h e d) i) × (n_of h < length rows)
-    choose-ready d q = rw q (g.tables, g.orders, ri, g.tables.trainee_names i p inside, j-ranks-i, g.rows_long)
+    pub choose-ready : (d : ℕ) → d ≡ j → In (n_of h) i × In (m_of h) d × (0 < place (ranking_of h e d) i) × (n_of h < length rows)
+    choose-ready d q = rw q (ri, g.tables.trainee_names i p inside, j-ranks-i, g.rows_long)
 
     chosen-same : choice_in h e holds bars rows i j ≡ choose K O (struck nothing rec) i j
     chosen-same = choice-same h e holds bars g.tables g.orders (struck nothing rec) rows g.rows_hold i j ri (g.tables.trainee_names i p inside) j-ranks-i

@@ -1,6 +1,6 @@
 -- From the state after the sweeps to the solver's ruling on the placement that the tables hold.
 -- Assumes nothing.
-use Prim.Native.Nat.{ℕ, zero, suc, ◌-◌, ◌≤◌, ◌<◌}
+use Prim.Native.Nat.{ℕ, zero, suc, ◌≤◌, ◌<◌}
 use mathlib.Core.Path.{◌≡◌, refl, sym, ap, ap₂, ◌∙◌, subst}
 use mathlib.Core.Bool.{true}
 use mathlib.Core.Option.{Option, none, some}
@@ -44,8 +44,7 @@ use Rattle.reasons.proofs.Noting.{orders-same, standing-noted, noted-none}
 use Rattle.strikes.specs.Cells.{strikes_in}
 use Rattle.strikes.proofs.Encoding.{count-strikes}
 use Rattle.strikes.proofs.Turns.{holds}
-use Rattle.solver.specs.declared.Held.{Held}
-use Rattle.solver.specs.declared.Room.{Room}
+use Rattle.std.specs.Prelude.{Option as Found, Some, None}
 use Rattle.meaning.specs.declared.Ending.{Ending}
 
 -- ---- the sweeps from the start
@@ -124,10 +123,10 @@ module _ (h e rows : List ℕ) (kept : Kept h e rows) where
   L-length = left-table-length (market_of h e) (wishes_of h e) (struck_in h e rows)
 
   -- the front of a table over which the left table was laid is the left table
-  pub front-left : (n : ℕ) (old : List ℕ) → n ≡ n_of h → take (n - 0) (laid L old) ≡ L
+  pub front-left : (n : ℕ) (old : List ℕ) → n ≡ n_of h → take n (laid L old) ≡ L
   unfolding laid
   front-left n old en =
-      let z : n - 0 ≡ length L = omega (arith, en, L-length) in
+      let z : n ≡ length L = omega (arith, en, L-length) in
       rw z (take-append-le (length L) L (drop (length L) old) (omega arith) ∙ take_all (length L) L (omega arith))
 
   in-range : (i : ℕ) → In (n_of h) i → table_of L i ≤ 64
@@ -141,11 +140,11 @@ module _ (h e rows : List ℕ) (kept : Kept h e rows) where
       )
 
   pub counts-ready : (n : ℕ) (old : List ℕ) → n ≡ n_of h
-      → (length (take (n - 0) (laid L old)) ≤ 256) × ((i : ℕ) → In (length (take (n - 0) (laid L old))) i → table_of (take (n - 0) (laid L old)) i ≤ 64)
+      → (length (take n (laid L old)) ≤ 256) × ((i : ℕ) → In (length (take n (laid L old))) i → table_of (take n (laid L old)) i ≤ 64)
   counts-ready n old en =
       rw (front-left n old en) (omega (arith, L-length, kept.tables.few_trainees), λ i r. in-range i (rw L-length at r))
 
-  pub counted-left : (n : ℕ) (old counts : List ℕ) → n ≡ n_of h → Counts (table_of (take (n - 0) (laid L old))) (length (take (n - 0) (laid L old))) counts → Counted h e rows counts
+  pub counted-left : (n : ℕ) (old counts : List ℕ) → n ≡ n_of h → Counts (table_of (take n (laid L old))) (length (take n (laid L old))) counts → Counted h e rows counts
   unfolding placed market_of
   counted-left n old counts en c j r =
       c j (omega (arith, r.high, kept.tables.few_depots)) ∙ rw (front-left n old en, L-length)
@@ -251,47 +250,48 @@ module _ (h e o rows cells : List ℕ) (used : ℕ) (F : Full) (os : List Order)
 
 module _ (h e o rows : List ℕ) where
   -- a hold that is found broken, or not
-  hold-found : (i j : ℕ) → Held.Broken i j ≡ broken_pair (first_broken (market_of h e) (struck_in h e rows) (orders_all o))
+  abbrev first_of : Found (ℕ × ℕ) → ℕ × ℕ
+  first_of None = (0, 0)
+  first_of (Some p) = p
+
+  hold-found : (i j : ℕ) → Some (i, j) ≡ broken_pair (first_broken (market_of h e) (struck_in h e rows) (orders_all o))
       → (x : Order) × (first_broken (market_of h e) (struck_in h e rows) (orders_all o) ≡ some x) × (x.trainee ≡ i) × (x.depot ≡ j)
   unfolding broken_pair
   hold-found i j q = go (first_broken (market_of h e) (struck_in h e rows) (orders_all o)) refl q
     where
-      go : (b : Option Order) → first_broken (market_of h e) (struck_in h e rows) (orders_all o) ≡ b → Held.Broken i j ≡ broken_pair b
+      go : (b : Option Order) → first_broken (market_of h e) (struck_in h e rows) (orders_all o) ≡ b → Some (i, j) ≡ broken_pair b
           → (x : Order) × (first_broken (market_of h e) (struck_in h e rows) (orders_all o) ≡ some x) × (x.trainee ≡ i) × (x.depot ≡ j)
-      go (some x) eb q = (x, eb, cc, cc)
+      go (some x) eb q = (x, eb, ap (λ (o : Found (ℕ × ℕ)). (first_of o).0) (sym q), ap (λ (o : Found (ℕ × ℕ)). (first_of o).1) (sym q))
       go none eb q = absurd (let z : ◌≡◌ {A = ℕ} 0 1 = cc in omega arith)
 
-  hold-none : Held.Unbroken ≡ broken_pair (first_broken (market_of h e) (struck_in h e rows) (orders_all o)) → first_broken (market_of h e) (struck_in h e rows) (orders_all o) ≡ none
+  hold-none : None ≡ broken_pair (first_broken (market_of h e) (struck_in h e rows) (orders_all o)) → first_broken (market_of h e) (struck_in h e rows) (orders_all o) ≡ none
   unfolding broken_pair
   hold-none q = go (first_broken (market_of h e) (struck_in h e rows) (orders_all o)) refl q
     where
-      go : (b : Option Order) → first_broken (market_of h e) (struck_in h e rows) (orders_all o) ≡ b → Held.Unbroken ≡ broken_pair b → first_broken (market_of h e) (struck_in h e rows) (orders_all o) ≡ none
+      go : (b : Option Order) → first_broken (market_of h e) (struck_in h e rows) (orders_all o) ≡ b → None ≡ broken_pair b → first_broken (market_of h e) (struck_in h e rows) (orders_all o) ≡ none
       go (some x) eb q = absurd (let z : ◌≡◌ {A = ℕ} 0 1 = cc in omega arith)
       go none eb q = eb
 
-  pub ends-broken : (i j : ℕ) → Held.Broken i j ≡ broken_pair (first_broken (market_of h e) (struck_in h e rows) (orders_all o)) → Ending.NoneHeld i j ≡ ending_in h e o rows
+  pub ends-broken : (i j : ℕ) → Some (i, j) ≡ broken_pair (first_broken (market_of h e) (struck_in h e rows) (orders_all o)) → Ending.NoneHeld i j ≡ ending_in h e o rows
   unfolding ending_in ending_by
   ends-broken i j q = let w = hold-found i j q in rw w.1 (ap₂ Ending.NoneHeld (sym w.2) (sym w.3))
 
-  pub ends-room : (i j : ℕ) {r : Room} → Held.Unbroken ≡ broken_pair (first_broken (market_of h e) (struck_in h e rows) (orders_all o)) → r ≡ Room.At i j
-      → room_of r ≡ room_from (market_of h e) (struck_in h e rows) (left_by h e rows) (m_of h) 1 → Ending.NoneRoom i j ≡ ending_in h e o rows
-  unfolding ending_in ending_by ending_of room_of
-  ends-room i j q er en = rw (hold-none q, ← en, er)
+  module _ (q : None ≡ broken_pair (first_broken (market_of h e) (struck_in h e rows) (orders_all o))) where
+    pub ends-room : (i j : ℕ) → room_of (Some (i, j)) ≡ room_from (market_of h e) (struck_in h e rows) (left_by h e rows) (m_of h) 1 → Ending.NoneRoom i j ≡ ending_in h e o rows
+    unfolding ending_in ending_by ending_of room_of
+    ends-room i j en = rw (hold-none q, ← en)
 
-  pub ends-placed : {r : Room} → Held.Unbroken ≡ broken_pair (first_broken (market_of h e) (struck_in h e rows) (orders_all o)) → r ≡ Room.Nowhere
-      → room_of r ≡ room_from (market_of h e) (struck_in h e rows) (left_by h e rows) (m_of h) 1 → Ending.Placed ≡ ending_in h e o rows
-  unfolding ending_in ending_by room_of
-  ends-placed q er en = rw (hold-none q, ← en, er)
+    pub ends-placed : room_of None ≡ room_from (market_of h e) (struck_in h e rows) (left_by h e rows) (m_of h) 1 → Ending.Placed ≡ ending_in h e o rows
+    unfolding ending_in ending_by room_of
+    ends-placed en = rw (hold-none q, ← en)
 
 module _ (l old : List ℕ) {x : Ending} where
   pub lays-placed : {new : List ℕ} → x ≡ Ending.Placed → new ≡ laid l old → new ≡ table_by x l old
   unfolding table_by
   lays-placed ex en = en ∙ rw ex
 
-  pub lays-held : {i j : ℕ} → x ≡ Ending.NoneHeld i j → old ≡ table_by x l old
-  unfolding table_by
-  lays-held ex = rw ex
-
-  pub lays-room : {i j : ℕ} → x ≡ Ending.NoneRoom i j → old ≡ table_by x l old
-  unfolding table_by
-  lays-room ex = rw ex
+pub lays-none : (x : Ending) (l old : List ℕ) → (x ≡ Ending.Placed → ⊥) → old ≡ table_by x l old
+unfolding table_by
+lays-none Ending.Placed l old n = absurd (n refl)
+lays-none (Ending.NoneHeld i j) l old n = refl
+lays-none (Ending.NoneRoom i j) l old n = refl

@@ -26,10 +26,18 @@ pub returns-then-line-ne0 : goal.returns-then-line-ne0
 returns-then-line-ne0 c = let a = c.args in
     solve-lacking _ _ _ _ _ (read-tables a.heads.now a.entries.now a.orders.now a.table.now a.room (sym c.has_room.ensures ∙ c.if-not-has_room.false) (sym c.used_cells_ok.ensures ∙ c.if-not-used_cells_ok.false)) _ c.first_missing_line-line.ensures _ c.if-line-ne0.true
 
+pub invariant_of-market : goal.invariant_of-market
+invariant_of-market c = let a = c.args in
+    let f = ready _ _ _ _ _ (read-tables a.heads.now a.entries.now a.orders.now a.table.now a.room (sym c.has_room.ensures ∙ c.if-not-has_room.false) (sym c.used_cells_ok.ensures ∙ c.if-not-used_cells_ok.false)) _ c.first_missing_line-line.ensures c.if-line-ne0.false in
+    record { full = f.0 }
+
+pub invariant_of-all : goal.invariant_of-all
+invariant_of-all c = let a = c.args in
+    let g = ready _ _ _ _ _ (read-tables a.heads.now a.entries.now a.orders.now a.table.now a.room (sym c.has_room.ensures ∙ c.if-not-has_room.false) (sym c.used_cells_ok.ensures ∙ c.if-not-used_cells_ok.false)) _ c.first_missing_line-line.ensures c.if-line-ne0.false in
+    record { full = g.1; few = omega (arith, c.type_inv.orders 0) }
+
 pub solve_cells-ruling-requires : goal.solve_cells-ruling-requires
-solve_cells-ruling-requires c = let a = c.args in
-    let full = ready _ _ _ _ _ (read-tables a.heads.now a.entries.now a.orders.now a.table.now a.room (sym c.has_room.ensures ∙ c.if-not-has_room.false) (sym c.used_cells_ok.ensures ∙ c.if-not-used_cells_ok.false)) _ c.first_missing_line-line.ensures c.if-line-ne0.false in
-    (full.0, full.1, (long-parts _ _ _ _ _ (sym c.has_room.ensures ∙ c.if-not-has_room.false)).table, omega (arith, c.requires))
+solve_cells-ruling-requires c = ((long-parts _ _ _ _ _ (sym c.has_room.ensures ∙ c.if-not-has_room.false)).table, omega (arith, c.requires))
 
 pub returns : goal.returns
 returns c = let a = c.args in

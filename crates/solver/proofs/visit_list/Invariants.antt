@@ -2,14 +2,13 @@
 use Rattle.meaning.specs.Solver.{row_by}
 use Rattle.ranks.specs.View.{wishes_of}
 use Rattle.strikes.specs.Cells.{strikes_in}
-use Rattle.solver.specs.Going.{Going, visit_of}
+use Rattle.solver.specs.Going.{GoingOn, visit_by}
 use mathlib.Core.Path.{◌≡◌}
-use Prim.Native.Nat.{◌≤◌, ◌-◌}
-use lib.ListN.{length, drop}
+use lib.ListN.{drop}
 use Rattle.solver.proofs.visit_list.Given as goal
 
 abbrev pub invariant-loop-p : goal.invariant-loop-p
-invariant-loop-p l = (l.p ≤ l.len) × (length l.rows ≡ length l.initial.rows) × (length l.cells ≡ length l.initial.cells) × Going l.heads l.entries l.holds l.bars l.rows l.cells l.at × (row_by (visit_of l.heads l.entries l.holds l.bars) l.i (wishes_of l.heads l.entries l.i) (strikes_in l.initial.cells l.used) ≡ row_by (visit_of l.heads l.entries l.holds l.bars) l.i (drop l.p (wishes_of l.heads l.entries l.i)) (strikes_in l.cells l.at))
-
-abbrev pub decreases-loop-p : goal.decreases-loop-p
-decreases-loop-p l = l.len - l.p
+invariant-loop-p l = let wishes = wishes_of l.standing.market.heads.now l.standing.market.entries.now l.i in record {
+  going : GoingOn l.standing l.rows l.cells l.at;
+  is : row_by (visit_by l.standing) l.i wishes (strikes_in l.initial.cells l.used) ≡ row_by (visit_by l.standing) l.i (drop l.p wishes) (strikes_in l.cells l.at);
+}
