@@ -6,3 +6,4 @@ pub mod Parted
 pub mod Lines
 pub mod Positions
 pub mod Puts
+pub mod Pens

@@ -5,9 +5,10 @@
 ghost use Rattle.std.specs.Prelude.{◌≡◌, ◌∷◌, [], ◌+◌, ◌≤◌, ◌<◌, length, drop};
 ghost use Rattle.std.proofs.Math.Seq.{slice};
 ghost use Rattle.fields.specs.Bytes.{word_of, same};
-ghost use Rattle.fields.specs.Number.{value, number_of, digits_of};
-ghost use Rattle.fields.specs.Writer.{write_number};
-ghost use Rattle.fields.specs.Leaves.{num_of, FieldRead, FigureRead, NumberRead, RunningRead, EndRead, KeywordRead, NumberedRead, Put};
+ghost use Rattle.fields.specs.Number.{value, number_of};
+ghost use Rattle.fields.specs.Leaves.{num_of, FieldRead, FigureRead, NumberRead, RunningRead, EndRead, KeywordRead, NumberedRead};
+
+pub mod pen;
 
 // A word as a number.
 #[derive(Clone, Copy)]
@@ -240,47 +241,4 @@ pub fn numbered_at(s: &[u8], at: usize, w: &[u8], i: u16) -> Numbered
             }
         }
     }
-}
-
-// One byte, and the position after it.
-pub fn put_byte(out: &mut [u8], at: usize, b: u8) -> usize
-    requires { at < length out.old }
-    ensures { Put out.old out.new at (b ∷ []) result }
-{
-    out[at] = b;
-    at + 1
-}
-
-// The bytes of a word, and the position after them.
-pub fn put_word(out: &mut [u8], at: usize, w: &[u8]) -> usize
-    requires { at + length w.now ≤ length out.old }
-    ensures { Put out.old out.new at w.now result }
-{
-    let mut i: usize = 0;
-    while i < w.len() {
-        out[at + i] = w[i];
-        i += 1;
-    }
-    at + i
-}
-
-// The digits of a number, and the position after them.
-pub fn put_digits(out: &mut [u8], at: usize, v: u16) -> usize
-    requires { at + length (digits_of v) ≤ length out.old }
-    ensures { Put out.old out.new at (digits_of v) result }
-{
-    if v < 10 {
-        return put_byte(out, at, 48 + v as u8);
-    }
-    let p = put_digits(out, at, v / 10);
-    put_byte(out, p, 48 + (v % 10) as u8)
-}
-
-// A number as a field, and the position after it.
-pub fn put_number(out: &mut [u8], at: usize, v: u16) -> usize
-    requires { at + length (write_number v) ≤ length out.old }
-    ensures { Put out.old out.new at (write_number v) result }
-{
-    let p = put_byte(out, at, 9);
-    put_digits(out, p, v)
 }

@@ -4,6 +4,7 @@
 ghost use Rattle.std.specs.Prelude.{◌≡◌, ◌∷◌, [], ◌+◌, ◌*◌, ◌≤◌, length, take, drop};
 ghost use Rattle.std.proofs.lemmas.List.Edits.{sets};
 ghost use Rattle.fields.specs.Leaves.{Put};
+ghost use Rattle.fields.specs.Pen.{Room, Wrote};
 ghost use Rattle.fields.specs.Reader.{lines};
 ghost use Rattle.fields.specs.Writer.{write_lines};
 ghost use Rattle.rulings.specs.Legal.{LegalOutcome};
@@ -11,9 +12,10 @@ ghost use Rattle.meaning.specs.Answers.{strike_numbers};
 ghost use Rattle.meaning.specs.Solver.{ending_of};
 ghost use Rattle.ruling_text.specs.Reader.{pair, low_witness, high_witness, reason, strike_fields, strike_line, cell_fields, cell_line, weightless, none_of, none_fields, outcome, finish, conclusion, body, sizes, head_fields, read_ruling};
 ghost use Rattle.ruling_text.specs.Code.{pair_numbers, reason_numbers, cell_numbers, head_numbers, OneRead, TwoRead, FourRead, RowsRead, NoneRead, ConclusionRead, ending_lines, LastRead, EndRead, BodyRead, TextRead, ending_cells, answered, answered_by};
-ghost use Rattle.ruling_text.specs.Writer.{write_numbers, write_line, write_strike, write_cell, write_outcome, ruling_text};
+ghost use Rattle.ruling_text.specs.Writer.{write_strike, write_cell, write_outcome, ruling_text};
 ghost use Rattle.ruling_text.specs.Cells.{strike_cells, strikes_in, outcome_in, ruling_in, Held};
 
+use fields::pen::Pen;
 use fields::{Found, Ranged};
 use meaning::{Ending, Ruling};
 
@@ -497,94 +499,48 @@ pub fn read_cells(s: &[u8], table: &mut [u16], cells: &mut [u16]) -> RulingRead
     }
 }
 
-// Numbers, a field each, and the position after them.
-fn put_numbers(out: &mut [u8], at: usize, vs: &[u16]) -> usize
-    requires { at + length (write_numbers vs.now) ≤ length out.old }
-    ensures { Put out.old out.new at (write_numbers vs.now) result }
-{
-    let mut i: usize = 0;
-    let mut p = at;
-    while i < vs.len() {
-        p = fields::put_number(out, p, vs[i]);
-        i += 1;
-    }
-    p
-}
-
-// A line of a word and numbers, and the position after it.
-fn put_line(out: &mut [u8], at: usize, w: &[u8], vs: &[u16]) -> usize
-    requires { at + length (write_line w.now vs.now) ≤ length out.old }
-    ensures { Put out.old out.new at (write_line w.now vs.now) result }
-{
-    let p = fields::put_word(out, at, w);
-    let q = put_numbers(out, p, vs);
-    fields::put_byte(out, q, 10)
-}
-
 // The lines of the strikes in `cells`.
-fn put_strikes(out: &mut [u8], at: usize, cells: &[u16], count: usize) -> usize
-    requires { (strike_cells (strikes_in cells.now count) ≡ take (4 * count) cells.now) × (at + length (write_lines write_strike 1 (strikes_in cells.now count)) ≤ length out.old) }
-    ensures { Put out.old out.new at (write_lines write_strike 1 (strikes_in cells.now count)) result }
+fn put_strikes(cells: &[u16], count: usize, pen: &mut Pen)
+    requires { (strike_cells (strikes_in cells.now count) ≡ take (4 * count) cells.now) × Room pen.old (write_lines write_strike 1 (strikes_in cells.now count)) }
+    ensures { Wrote pen.old pen.new (write_lines write_strike 1 (strikes_in cells.now count)) }
 {
-    let mut i: usize = 0;
-    let mut p = at;
-    while i < count {
+    for i in 0..count {
         let from = 4 * i;
-        let to = from + 4;
-        p = put_line(out, p, b"S", &cells[from..to]);
-        i += 1;
+        pen.line(b"S", &cells[from..from + 4]);
     }
-    p
 }
 
-// The lines of the first n cells of a table.
-fn put_table(out: &mut [u8], at: usize, table: &[u16], n: usize) -> usize
-    requires { (n ≤ 256) × (n ≤ length table.now) × (at + length (write_lines write_cell 1 (take n table.now)) ≤ length out.old) }
-    ensures { Put out.old out.new at (write_lines write_cell 1 (take n table.now)) result }
+// The lines of a table's cells.
+fn put_table(table: &[u16], pen: &mut Pen)
+    requires { (length table.now ≤ 256) × Room pen.old (write_lines write_cell 1 table.now) }
+    ensures { Wrote pen.old pen.new (write_lines write_cell 1 table.now) }
 {
-    let mut i: usize = 0;
-    let mut p = at;
-    while i < n {
-        let line = [(i + 1) as u16, table[i]];
-        p = put_line(out, p, b"A", &line);
-        i += 1;
+    for (i, depot) in table.iter().enumerate() {
+        pen.line(b"A", &[(i + 1) as u16, *depot]);
     }
-    p
 }
 
 // The table's lines, or the line that says why there is none.
-fn put_outcome(out: &mut [u8], at: usize, n: usize, ending: Ending, table: &[u16]) -> usize
-    requires { (n ≤ 256) × LegalOutcome n (outcome_in n ending table.now) × (at + length (write_outcome (outcome_in n ending table.now)) ≤ length out.old) }
-    ensures { Put out.old out.new at (write_outcome (outcome_in n ending table.now)) result }
+fn put_outcome(n: usize, ending: Ending, table: &[u16], pen: &mut Pen)
+    requires { (n ≤ 256) × LegalOutcome n (outcome_in n ending table.now) × Room pen.old (write_outcome (outcome_in n ending table.now)) }
+    ensures { Wrote pen.old pen.new (write_outcome (outcome_in n ending table.now)) }
 {
     match ending {
-        Ending::Placed => put_table(out, at, table, n),
-        Ending::NoneHeld(i, j) => {
-            let held = [1, i, j];
-            put_line(out, at, b"N", &held)
-        }
-        Ending::NoneRoom(i, j) => {
-            let room = [2, i, j];
-            put_line(out, at, b"N", &room)
-        }
+        Ending::Placed => put_table(&table[..n], pen),
+        Ending::NoneHeld(i, j) => pen.line(b"N", &[1, i, j]),
+        Ending::NoneRoom(i, j) => pen.line(b"N", &[2, i, j]),
     }
 }
 
-// The text of a ruling of `trainees` trainees and `count` strikes, and how many bytes it has.
-pub fn put_ruling(
-    trainees: u16,
-    count: u16,
-    ending: Ending,
-    table: &[u16],
-    cells: &[u16],
-    out: &mut [u8],
-) -> usize
-    requires { Held trainees count ending table.now cells.now × (65536 ≤ length out.old) }
-    ensures { Put out.old out.new 0 (ruling_text (ruling_in trainees count ending table.now cells.now)) result }
+// The text of a ruling, and how many bytes it has.
+pub fn put_ruling(ruling: Ruling, table: &[u16], cells: &[u16], out: &mut [u8]) -> usize
+    requires { Held ruling.trainees ruling.strikes ruling.ending table.now cells.now × (65536 ≤ length out.old) }
+    ensures { Put out.old out.new 0 (ruling_text (ruling_in ruling.trainees ruling.strikes ruling.ending table.now cells.now)) result }
 {
-    let head = [1, trainees, count];
-    let strikes = put_line(out, 0, b"ruling", &head);
-    let outcome = put_strikes(out, strikes, cells, count as usize);
-    let end = put_outcome(out, outcome, trainees as usize, ending, table);
-    fields::put_word(out, end, b"end\n")
+    let mut pen = Pen { out, at: 0 };
+    pen.line(b"ruling", &[1, ruling.trainees, ruling.strikes]);
+    put_strikes(cells, ruling.strikes as usize, &mut pen);
+    put_outcome(ruling.trainees as usize, ruling.ending, table, &mut pen);
+    pen.word(b"end\n");
+    pen.at
 }
