@@ -4,5 +4,5 @@ pub mod Steps
 pub mod Words
 pub mod Parted
 pub mod Lines
-pub mod Positions
+pub mod Ways
 pub mod Puts
