@@ -9,6 +9,7 @@ use Rattle.meaning.specs.declared.Fault.{Fault}
 use Rattle.fields.specs.Bytes.{word_of, rest_of}
 use Rattle.fields.specs.Reader.{Step, got, refusal}
 use Rattle.fields.specs.declared.Wrong.{Wrong}
+use Rattle.fields.specs.declared.Misread.{Misread}
 
 abbrev pub num_of : maybe.Option ℕ → Option ℕ
 num_of (maybe.some v) = Some v
@@ -20,6 +21,14 @@ num_of maybe.none = None
 abbrev pub StepRead : {A : Type 0} → Step A → List ℕ → Result A Wrong → Type 0
 StepRead step r (Ok a) = step ≡ got a r
 StepRead step r (Err x) = step ≡ refusal (fault_number x.fault) 0 x.field
+
+-- the same of a reader that counts lines
+abbrev pub LinesRead : {A : Type 0} → Step A → List ℕ → Result A Misread → Type 0
+LinesRead step r (Ok a) = step ≡ got a r
+LinesRead step r (Err x) = step ≡ refusal (fault_number x.fault) x.line x.field
+
+abbrev pub wrong_on : Wrong → ℕ → Misread
+wrong_on x l = record { fault = x.fault; line = l; field = x.field }
 
 -- the same of a word, which the answer lends
 abbrev pub WordRead : Step (List ℕ) → List ℕ → Result (Bor (List ℕ)) Wrong → Type 0

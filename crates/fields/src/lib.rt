@@ -6,7 +6,7 @@ ghost use Rattle.std.specs.Prelude.{◌≡◌, ◌∷◌, [], ◌+◌, ◌≤◌
 ghost use Rattle.fields.specs.Number.{value, number_of, digits_of};
 ghost use Rattle.fields.specs.Writer.{write_number};
 ghost use Rattle.fields.specs.Reader.{field, figure, number, running, line_end, keyword, numbered};
-ghost use Rattle.fields.specs.Leaves.{num_of, FirstRead, ByteRead, WordRead, StepRead, Put};
+ghost use Rattle.fields.specs.Leaves.{num_of, wrong_on, FirstRead, ByteRead, WordRead, StepRead, Put};
 
 use meaning::Fault;
 
@@ -21,6 +21,27 @@ pub struct Cursor<'a> {
 pub struct Wrong {
     pub fault: Fault,
     pub field: usize,
+}
+
+// What is wrong in a text: why, on which line, and in which field.
+#[derive(Clone, Copy, PartialEq, Eq)]
+pub struct Misread {
+    pub fault: Fault,
+    pub line: usize,
+    pub field: usize,
+}
+
+impl Wrong {
+    // The same as wrong on a line.
+    pub fn on(self, line: usize) -> Misread
+        ensures { result ≡ wrong_on self line }
+    {
+        Misread {
+            fault: self.fault,
+            line,
+            field: self.field,
+        }
+    }
 }
 
 // The value of at most five digits.
