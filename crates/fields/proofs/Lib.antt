@@ -4,5 +4,6 @@ pub mod Steps
 pub mod Words
 pub mod Parted
 pub mod Lines
-pub mod Positions
+pub mod Ways
 pub mod Puts
+pub mod Pens

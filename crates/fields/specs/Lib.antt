@@ -5,4 +5,5 @@ pub mod Number
 pub mod Reader
 pub mod Writer
 pub mod Leaves
+pub mod Pen
 pub mod Shown

@@ -1,286 +1,180 @@
-// The leaves of both texts: what stands at a position of a text, and bytes put at a position of an output.
-// A field is read from the position of its tab, and every answer says where the reading stopped.
+// The leaves of both texts: what stands at the front of a text, and bytes put at a position of an output.
+// A field is read from its tab on.
 #![tactic(auto)]
 
-ghost use Rattle.std.specs.Prelude.{◌≡◌, ◌∷◌, [], ◌+◌, ◌≤◌, ◌<◌, length, drop};
-ghost use Rattle.std.proofs.Math.Seq.{slice};
-ghost use Rattle.fields.specs.Bytes.{word_of, same};
-ghost use Rattle.fields.specs.Number.{value, number_of, digits_of};
-ghost use Rattle.fields.specs.Writer.{write_number};
-ghost use Rattle.fields.specs.Leaves.{num_of, FieldRead, FigureRead, NumberRead, RunningRead, EndRead, KeywordRead, NumberedRead, Put};
+ghost use Rattle.std.specs.Prelude.{◌≡◌, ◌∷◌, ◌≤◌, length, OnErr};
+ghost use Rattle.fields.specs.Number.{value, number_of};
+ghost use Rattle.fields.specs.Reader.{field, figure, number, running, line_end, keyword, numbered};
+ghost use Rattle.fields.specs.Leaves.{num_of, wrong_on, FirstRead, ByteRead, WordRead, StepRead};
 
-// A word as a number.
+pub mod pen;
+
+use meaning::Fault;
+
+// What is left of a text. Each method reads from its front and moves past what it has read.
 #[derive(Clone, Copy)]
-pub enum Num {
-    Value(u32),
-    Not,
+pub struct Cursor<'a> {
+    pub rest: &'a [u8],
 }
 
-// The word of a field: where it starts and where it stopped.
-#[derive(Clone, Copy)]
-pub enum Field {
-    Word(usize, usize),
-    Missing,
+// What is wrong in a line: why, and in which field.
+#[derive(Clone, Copy, PartialEq, Eq)]
+pub struct Wrong {
+    pub fault: Fault,
+    pub field: usize,
 }
 
-// A number in a field, and where it stopped.
-#[derive(Clone, Copy)]
-pub enum Figure {
-    Is(u32, usize),
-    Wrong,
+// What is wrong in a text: why, on which line, and in which field.
+#[derive(Clone, Copy, PartialEq, Eq)]
+pub struct Misread {
+    pub fault: Fault,
+    pub line: usize,
+    pub field: usize,
 }
 
-// A number of a range, and where it stopped; or the number of the refusal, 3 or 4.
-#[derive(Clone, Copy)]
-pub enum Ranged {
-    Is(u16, usize),
-    Not(u16),
-}
-
-// What had to stand there, and where it stopped.
-#[derive(Clone, Copy)]
-pub enum Found {
-    To(usize),
-    Wrong,
-}
-
-// The word and the running number of a line, and where they stopped; or the field that is wrong.
-#[derive(Clone, Copy)]
-pub enum Numbered {
-    To(usize),
-    Wrong(usize),
-}
-
-// Where the word ends that starts at `at`.
-pub fn word_end(s: &[u8], at: usize) -> usize
-    requires { at ≤ length s.now }
-    ensures { result ≡ at + length (word_of (drop at s.now)) }
-{
-    let mut i = at;
-    while i < s.len() {
-        if s[i] == 9 {
-            return i;
+impl Wrong {
+    // The same as wrong on a line.
+    pub fn on(self, line: usize) -> Misread
+        ensures { result ≡ wrong_on self line }
+    {
+        Misread {
+            fault: self.fault,
+            line,
+            field: self.field,
         }
-        if s[i] == 10 {
-            return i;
-        }
-        i += 1;
     }
-    i
 }
 
 // The value of at most five digits.
-fn value_in(s: &[u8], from: usize, to: usize) -> Num
-    requires { (from ≤ to) × (to ≤ length s.now) × (to ≤ from + 5) }
-    ensures { result ≡ num_of (value 0 (slice from to s.now)) }
+fn value_in(word: &[u8]) -> Option<u32>
+    requires { length word.now ≤ 5 }
+    ensures { result ≡ num_of (value 0 word.now) }
 {
     let mut v: u32 = 0;
-    let mut i = from;
-    while i < to {
-        let d = s[i];
-        if d < 48 {
-            return Num::Not;
+    for d in word {
+        if *d < 48 || 57 < *d {
+            return None;
         }
-        if 57 < d {
-            return Num::Not;
-        }
-        v = v * 10 + (d - 48) as u32;
-        i += 1;
+        v = v * 10 + (*d - 48) as u32;
     }
-    Num::Value(v)
+    Some(v)
 }
 
 // The number that a word is.
-pub fn number_in(s: &[u8], from: usize, to: usize) -> Num
-    requires { (from ≤ to) × (to ≤ length s.now) }
-    ensures { result ≡ num_of (number_of (slice from to s.now)) }
+pub fn number_in(word: &[u8]) -> Option<u32>
+    ensures { result ≡ num_of (number_of word.now) }
 {
-    let n = to - from;
-    if n == 0 {
-        return Num::Not;
+    let n = word.len();
+    if n == 0 || 5 < n {
+        return None;
     }
-    if 5 < n {
-        return Num::Not;
+    if 1 < n && word[0] == b'0' {
+        return None;
     }
-    if 1 < n {
-        if s[from] == 48 {
-            return Num::Not;
+    value_in(word)
+}
+
+impl<'a> Cursor<'a> {
+    // The bytes before the next tab or line end.
+    pub fn word(&mut self) -> &'a [u8]
+        ensures { FirstRead self.old.rest.now self.new.rest.now result.now }
+    {
+        let s = self.rest;
+        let n = s.iter().position(|b| *b == b'\t' || *b == b'\n');
+        let (word, rest) = s.split_at(n.unwrap_or(s.len()));
+        self.rest = rest;
+        word
+    }
+
+    // The byte b in the place of the field k; another one leaves the text as it is.
+    fn byte(&mut self, b: u8, k: usize) -> Result<(), Wrong>
+        ensures { ByteRead self.old.rest.now b k self.new.rest.now result }
+    {
+        if self.rest.is_empty() || self.rest[0] != b {
+            return Err(Wrong {
+                fault: Fault::WrongForm,
+                field: k,
+            });
         }
+        self.rest = &self.rest[1..];
+        Ok(())
     }
-    value_in(s, from, to)
-}
 
-// The field at `at`.
-pub fn field_at(s: &[u8], at: usize) -> Field
-    requires { at ≤ length s.now }
-    ensures { FieldRead s.now at result }
-{
-    if s.len() <= at {
-        return Field::Missing;
+    // The word of the field k, after its tab.
+    pub fn field(&mut self, k: usize) -> Result<&'a [u8], Wrong>
+        ensures { WordRead (field k self.old.rest.now) self.new.rest.now result }
+    {
+        self.byte(b'\t', k)?;
+        Ok(self.word())
     }
-    if s[at] != 9 {
-        return Field::Missing;
-    }
-    Field::Word(at + 1, word_end(s, at + 1))
-}
 
-// The number in the field at `at`.
-pub fn figure_at(s: &[u8], at: usize) -> Figure
-    requires { at ≤ length s.now }
-    ensures { FigureRead s.now at result }
-{
-    let w = field_at(s, at);
-    match w {
-        Field::Missing => Figure::Wrong,
-        Field::Word(from, to) => {
-            let n = number_in(s, from, to);
-            match n {
-                Num::Value(v) => Figure::Is(v, to),
-                Num::Not => Figure::Wrong,
-            }
+    // The number in the field k.
+    pub fn figure(&mut self, k: usize) -> Result<u32, Wrong>
+        ensures { StepRead (figure k self.old.rest.now) self.new.rest.now result }
+    {
+        let w = self.field(k)?;
+        number_in(w).ok_or(Wrong {
+            fault: Fault::WrongForm,
+            field: k,
+        })
+    }
+
+    // The number of lo to hi in the field k.
+    pub fn number(&mut self, k: usize, lo: u16, hi: u16) -> Result<u16, Wrong>
+        ensures { StepRead (number k lo hi self.old.rest.now) self.new.rest.now result }
+    {
+        let v = self.figure(k)?;
+        if v < lo as u32 || (hi as u32) < v {
+            return Err(Wrong {
+                fault: Fault::OutOfRange,
+                field: k,
+            });
         }
+        Ok(v as u16)
     }
-}
 
-// The number of lo to hi in the field at `at`.
-pub fn number_at(s: &[u8], at: usize, lo: u16, hi: u16) -> Ranged
-    requires { at ≤ length s.now }
-    ensures { NumberRead s.now at lo hi result }
-{
-    let f = figure_at(s, at);
-    match f {
-        Figure::Wrong => Ranged::Not(3),
-        Figure::Is(v, next) => {
-            if v < lo as u32 {
-                return Ranged::Not(4);
-            }
-            if (hi as u32) < v {
-                return Ranged::Not(4);
-            }
-            Ranged::Is(v as u16, next)
+    // The number v in the field k: an edition, a running number.
+    pub fn running(&mut self, k: usize, v: u16) -> Result<(), Wrong>
+        ensures { StepRead (running k v self.old.rest.now) self.new.rest.now result }
+    {
+        let u = self.figure(k)?;
+        if u != v as u32 {
+            return Err(Wrong {
+                fault: Fault::WrongForm,
+                field: k,
+            });
         }
+        Ok(())
     }
-}
 
-// The number that the field at `at` has to hold: an edition, a running number.
-pub fn running_at(s: &[u8], at: usize, v: u16) -> Found
-    requires { at ≤ length s.now }
-    ensures { RunningRead s.now at v result }
-{
-    let f = figure_at(s, at);
-    match f {
-        Figure::Wrong => Found::Wrong,
-        Figure::Is(u, next) => {
-            if u != v as u32 {
-                return Found::Wrong;
-            }
-            Found::To(next)
+    // The end of a line in the place of the field k.
+    pub fn line_end(&mut self, k: usize) -> Result<(), Wrong>
+        ensures { StepRead (line_end k self.old.rest.now) self.new.rest.now result }
+    {
+        self.byte(b'\n', k)
+    }
+
+    // The word w at the beginning of a line; another word leaves the text as it is.
+    pub fn keyword(&mut self, w: &[u8]) -> Result<(), Wrong>
+        ensures read { StepRead (keyword w.now self.old.rest.now) self.new.rest.now result }
+        ensures kept { OnErr result (self.new.rest.now ≡ self.old.rest.now) }
+    {
+        let mut after = *self;
+        if after.word() != w {
+            return Err(Wrong {
+                fault: Fault::WrongForm,
+                field: 1,
+            });
         }
+        *self = after;
+        Ok(())
     }
-}
 
-// The end of a line at `at`.
-pub fn line_end_at(s: &[u8], at: usize) -> Found
-    requires { at ≤ length s.now }
-    ensures { EndRead s.now at result }
-{
-    if s.len() <= at {
-        return Found::Wrong;
+    // The word w and the running number i at the beginning of a line.
+    pub fn numbered(&mut self, w: &[u8], i: u16) -> Result<(), Wrong>
+        ensures { StepRead (numbered w.now i self.old.rest.now) self.new.rest.now result }
+    {
+        self.keyword(w)?;
+        self.running(2, i)
     }
-    if s[at] != 10 {
-        return Found::Wrong;
-    }
-    Found::To(at + 1)
-}
-
-// Whether the bytes between two positions are the word w.
-pub fn same_word(s: &[u8], from: usize, to: usize, w: &[u8]) -> bool
-    requires { (from ≤ to) × (to ≤ length s.now) }
-    ensures { result ≡ same (slice from to s.now) w.now }
-{
-    if to - from != w.len() {
-        return false;
-    }
-    let mut i: usize = 0;
-    while i < w.len() {
-        if s[from + i] != w[i] {
-            return false;
-        }
-        i += 1;
-    }
-    true
-}
-
-// The word w at the beginning of a line.
-pub fn keyword_at(s: &[u8], at: usize, w: &[u8]) -> Found
-    requires { at ≤ length s.now }
-    ensures { KeywordRead s.now at w.now result }
-{
-    let to = word_end(s, at);
-    if same_word(s, at, to, w) {
-        Found::To(to)
-    } else {
-        Found::Wrong
-    }
-}
-
-// The word w and the running number i at the beginning of a line.
-pub fn numbered_at(s: &[u8], at: usize, w: &[u8], i: u16) -> Numbered
-    requires { at ≤ length s.now }
-    ensures { NumberedRead s.now at w.now i result }
-{
-    let k = keyword_at(s, at, w);
-    match k {
-        Found::Wrong => Numbered::Wrong(1),
-        Found::To(p) => {
-            let f = running_at(s, p, i);
-            match f {
-                Found::Wrong => Numbered::Wrong(2),
-                Found::To(next) => Numbered::To(next),
-            }
-        }
-    }
-}
-
-// One byte, and the position after it.
-pub fn put_byte(out: &mut [u8], at: usize, b: u8) -> usize
-    requires { at < length out.old }
-    ensures { Put out.old out.new at (b ∷ []) result }
-{
-    out[at] = b;
-    at + 1
-}
-
-// The bytes of a word, and the position after them.
-pub fn put_word(out: &mut [u8], at: usize, w: &[u8]) -> usize
-    requires { at + length w.now ≤ length out.old }
-    ensures { Put out.old out.new at w.now result }
-{
-    let mut i: usize = 0;
-    while i < w.len() {
-        out[at + i] = w[i];
-        i += 1;
-    }
-    at + i
-}
-
-// The digits of a number, and the position after them.
-pub fn put_digits(out: &mut [u8], at: usize, v: u16) -> usize
-    requires { at + length (digits_of v) ≤ length out.old }
-    ensures { Put out.old out.new at (digits_of v) result }
-{
-    if v < 10 {
-        return put_byte(out, at, 48 + v as u8);
-    }
-    let p = put_digits(out, at, v / 10);
-    put_byte(out, p, 48 + (v % 10) as u8)
-}
-
-// A number as a field, and the position after it.
-pub fn put_number(out: &mut [u8], at: usize, v: u16) -> usize
-    requires { at + length (write_number v) ≤ length out.old }
-    ensures { Put out.old out.new at (write_number v) result }
-{
-    let p = put_byte(out, at, 9);
-    put_digits(out, p, v)
 }

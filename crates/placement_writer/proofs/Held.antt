@@ -21,7 +21,6 @@ use Rattle.tables.proofs.Views.{OrderSeen, OrdersSeen, orders-seen}
 use Rattle.tables.proofs.Round.{Parts, parts, tables-back}
 use Rattle.placement_text.specs.Writer.{write_trainee, write_depot, write_orders, write_head, write_end, above_end, text_of}
 use Rattle.placement_text.proofs.Short.{text-short}
-use Rattle.placement_writer.proofs.Going.{room-front}
 use Rattle.placement_writer.specs.Held.{number_in, list_in, depot_in, kind_in, order_in, run, ListRoom}
 
 -- ---- one list, one number of posts, one order
@@ -187,25 +186,3 @@ module _ (h e o : List ℕ) (t : is_some (placement_of h e o) ≡ true) where
 
   pub order-cells : 0 < length o
   order-cells = let r = ready-cells.orders in omega arith
-
--- the room for each part of the text, behind those before it
-pub record Rooms (h e o : List ℕ) (n m c k : ℕ) : Type 0 where
-  pub head : 0 + length (write_head 1 n m) ≤ k
-  pub trainees : 0 + length (write_head 1 n m ++ write_lines write_trainee 1 (run (λ i. list_in h e (trainee_start i)) n 1)) ≤ k
-  pub depots : 0 + length (write_head 1 n m ++ write_lines write_trainee 1 (run (λ i. list_in h e (trainee_start i)) n 1) ++ write_lines write_depot 1 (run (λ j. depot_in h e (depot_start n j)) m 1)) ≤ k
-  pub orders : 0 + length (write_head 1 n m ++ write_lines write_trainee 1 (run (λ i. list_in h e (trainee_start i)) n 1) ++ write_lines write_depot 1 (run (λ j. depot_in h e (depot_start n j)) m 1) ++ write_orders (run (λ q. order_in o (order_start q)) c 0)) ≤ k
-  pub end : 0 + length (write_head 1 n m ++ write_lines write_trainee 1 (run (λ i. list_in h e (trainee_start i)) n 1) ++ write_lines write_depot 1 (run (λ j. depot_in h e (depot_start n j)) m 1) ++ write_orders (run (λ q. order_in o (order_start q)) c 0) ++ write_end) ≤ k
-
-pub text-parts : {h e o : List ℕ} {n m c k : ℕ} → Ready h e o n m c → 65536 ≤ k → Rooms h e o n m c k
-unfolding text_in
-text-parts {h} {e} {o} {n} {m} {c} {k} G l =
-    let w = write_head 1 n m in
-    let x = write_lines write_trainee 1 (run (λ i. list_in h e (trainee_start i)) n 1) in
-    let y = write_lines write_depot 1 (run (λ j. depot_in h e (depot_start n j)) m 1) in
-    let z = write_orders (run (λ q. order_in o (order_start q)) c 0) in
-    let s = G.short in
-    let R₅ : 0 + length (w ++ x ++ y ++ z ++ write_end) ≤ k = omega arith in
-    let R₄ = room-front (w ++ x ++ y ++ z) write_end 0 R₅ in
-    let R₃ = room-front (w ++ x ++ y) z 0 R₄ in
-    let R₂ = room-front (w ++ x) y 0 R₃ in
-    record { head = room-front w x 0 R₂; trainees = R₂; depots = R₃; orders = R₄; end = R₅ }

@@ -1,6 +1,6 @@
 -- What cells of the lent tables say: what the functions that write a line are promised against.
 -- Assumes nothing.
-use Rattle.std.specs.Prelude.{ℕ, zero, suc, ◌+◌, ◌≤◌, ◌<◌, ◌≡◌, true, false, List, [], ◌∷◌, length, get_or, eqb}
+use Rattle.std.specs.Prelude.{Option as Answer, Some, None, ℕ, zero, suc, ◌+◌, ◌≤◌, ◌<◌, ◌≡◌, true, false, List, [], ◌∷◌, length, get_or, eqb}
 use Rattle.std.proofs.Math.Option.{Option, none, some}
 use Rattle.meaning.specs.Placement.{Kind, held, barred, Order, Depot, depot}
 use Rattle.tables.specs.Cells.{missing_cell, part}
@@ -8,6 +8,11 @@ use Rattle.tables.specs.Cells.{missing_cell, part}
 -- a length or posts, by the cell
 unfoldable pub number_in : ℕ → Option ℕ
 number_in v = elim (eqb v missing_cell) [ true ↦ none | false ↦ some v ]
+
+-- the same, by what the cell gave
+abbrev pub received_in : Answer ℕ → Option ℕ
+received_in (Some v) = some v
+received_in None = none
 
 -- the list whose start and length stand at `at`
 unfoldable pub list_in : List ℕ → List ℕ → ℕ → Option (List ℕ)

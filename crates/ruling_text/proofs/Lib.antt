@@ -7,6 +7,7 @@ pub mod Written
 pub mod Quads
 pub mod Parts
 pub mod Ways
+pub mod Lined
 pub mod Turns
 pub mod Conclusions
 pub mod Whole

@@ -12,14 +12,14 @@ use Rattle.meaning.specs.Lists.{each_none, each_more}
 use Rattle.meaning.specs.Endings.{Outcome, placed_by}
 use Rattle.fields.specs.Bytes.{LF, stop?, word_of, rest_of, same, word_end}
 use Rattle.fields.specs.Reader.{got, line, line_end, keyword, number, running, lines, at_end, unless, first}
-use Rattle.fields.specs.Writer.{write_number, write_lines}
+use Rattle.fields.specs.Writer.{write_number, write_lines, write_numbers, write_line}
 use Rattle.meaning.proofs.Booleans.{true-or-false}
 use Rattle.fields.proofs.Steps.{refusal-not-got, went, got-value, got-rest, on_line_lem}
 use Rattle.fields.proofs.Words.{Word, stops, word-there, rest-there, word-rest, same-eq, same_refl, end-there, end_back, keyword-there, keyword-back, number-stops, lf-stops, number-there, number-back, running-there, running-back}
 use Rattle.fields.proofs.Lines.{Line, lines-there, lines-back}
 use Rattle.ruling_text.specs.Words.{word_A, word_N}
 use Rattle.rulings.specs.Legal.{DEPOTS, LegalOutcome, legal_table, legal_held, legal_room}
-use Rattle.ruling_text.specs.Writer.{write_numbers, write_line, write_cell, write_none, write_outcome, write_end}
+use Rattle.ruling_text.specs.Writer.{write_cell, write_none, write_outcome, write_end}
 use Rattle.ruling_text.specs.Reader.{Pair, pair, weightless, cell_fields, cell_line, none_of, none_fields, table, outcome, lines_of, end_fields, finish, conclusion}
 use Rattle.ruling_text.proofs.Strikes.{weightless-sum, pair-there, pair-back}
 

@@ -7,8 +7,6 @@ use native.Mathlib.Omega.{arith}
 use lib.ListN.{length, length-append}
 use Rattle.meaning.specs.declared.Ending.{Ending}
 use Rattle.fields.specs.Writer.{write_lines}
-use Rattle.fields.specs.Leaves.{Put}
-use Rattle.fields.proofs.Puts.{put_then, put_as}
 use Rattle.ruling_text.specs.Writer.{write_strike, write_outcome, write_head, write_end, ruling_text}
 use Rattle.ruling_text.specs.Cells.{strikes_in, outcome_in, ruling_in, Held}
 use Rattle.ruling_text.proofs.Short.{ruling-short}
@@ -21,7 +19,7 @@ module _ (n count : ℕ) (ending : Ending) (table cells : List ℕ) where
   abbrev outcome : List ℕ
   outcome = write_outcome (outcome_in n ending table)
 
-  text-parts : write_head n count ++ strikes ++ outcome ++ write_end ≡ ruling_text (ruling_in n count ending table cells)
+  pub text-parts : write_head n count ++ strikes ++ outcome ++ write_end ≡ ruling_text (ruling_in n count ending table cells)
   unfolding ruling_text ruling_in
   text-parts = ap (λ k. write_head n k ++ strikes ++ outcome ++ write_end) (sym (strikes-length cells count))
 
@@ -32,7 +30,3 @@ module _ (n count : ℕ) (ending : Ending) (table cells : List ℕ) where
         simp length-append at (ap length text-parts),
         ruling-short (ruling_in n count ending table cells) H.legal,
       )
-
-  pub parts-put : {a b c d e : List ℕ} {p q r t : ℕ} → Put a b 0 (write_head n count) p → Put b c p strikes q → Put c d q outcome r → Put d e r write_end t
-      → Put a e 0 (ruling_text (ruling_in n count ending table cells)) t
-  parts-put P Q R T = put_as text-parts (put_then (put_then (put_then P Q) R) T)

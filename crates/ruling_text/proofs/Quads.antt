@@ -8,8 +8,9 @@ use lib.ListN.{length, get_or, take, drop, take-append-drop, length-take, length
 use lib.Seq.{take-append-le, drop-append-le}
 use Rattle.meaning.specs.Answers.{strike_numbers}
 use Rattle.meaning.specs.declared.Strike.{Strike}
+use Rattle.fields.specs.Writer.{write_line}
 use Rattle.ruling_text.specs.Words.{word_S}
-use Rattle.ruling_text.specs.Writer.{write_line, write_strike}
+use Rattle.ruling_text.specs.Writer.{write_strike}
 use Rattle.ruling_text.specs.Cells.{joined, strike_cells, strikes_from, strikes_in}
 
 pub quads-length : (xs : List Strike) → length (strike_cells xs) ≡ 4 * length xs

@@ -13,14 +13,14 @@ use Rattle.meaning.specs.Lists.{each_none, each_more}
 use Rattle.meaning.specs.Solver.{WholeRuling}
 use Rattle.fields.specs.Bytes.{LF, stop?}
 use Rattle.fields.specs.Reader.{Step, got, refusal, line, line_end, keyword, number, running, lines}
-use Rattle.fields.specs.Writer.{write_number, write_lines}
+use Rattle.fields.specs.Writer.{write_number, write_lines, write_numbers, write_line}
 use Rattle.meaning.proofs.Booleans.{true-or-false}
 use Rattle.fields.proofs.Steps.{went, got-value, got-rest, on_line_lem}
 use Rattle.fields.proofs.Words.{Word, end-there, end_back, keyword-there, keyword-back, number-stops, lf-stops, number-there, number-back, running-there, running-back}
 use Rattle.fields.proofs.Lines.{lines-there, lines-back}
 use Rattle.ruling_text.specs.Words.{word_ruling}
 use Rattle.rulings.specs.Legal.{STRIKES, LegalStrike, LegalRuling}
-use Rattle.ruling_text.specs.Writer.{write_numbers, write_line, write_strike, write_outcome, write_head, write_end, ruling_text}
+use Rattle.ruling_text.specs.Writer.{write_strike, write_outcome, write_head, write_end, ruling_text}
 use Rattle.ruling_text.specs.Reader.{strike_line, weightless, conclusion, Head, sizes, head_fields, body, ruling, taken, answer, read_ruling}
 use Rattle.ruling_text.proofs.Strikes.{weightless-sum, strike-there, strike-back}
 use Rattle.ruling_text.proofs.Outcomes.{conclusion-there, conclusion-back}

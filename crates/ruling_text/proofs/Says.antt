@@ -5,7 +5,7 @@ use mathlib.Core.Path.{◌≡◌, refl, sym, ap, ap₂, ◌∙◌, subst}
 use mathlib.Core.List.{List, [], ◌∷◌, ◌++◌, append_assoc}
 use native.Mathlib.Omega.{arith}
 use lib.ListN.{length, get_or, take, drop, take-append-drop, length-append}
-use lib.Seq.{sets, sets-eq, get_or-append_seam, get_or-append-add, take-append_seam}
+use lib.Seq.{length-take-le, sets, sets-eq, get_or-append_seam, get_or-append-add, take-append_seam}
 use Rattle.meaning.specs.Answers.{reason_number, reason_witness, strike_numbers}
 use Rattle.meaning.specs.Endings.{Outcome, placed_by}
 use Rattle.meaning.specs.Solver.{WholeRuling, ending_of, head_of}
@@ -14,7 +14,9 @@ use Rattle.rulings.specs.Legal.{LegalOutcome, legal_table, legal_held, legal_roo
 use Rattle.ruling_text.specs.Reader.{reason_of, refused, read_ruling}
 use Rattle.ruling_text.specs.Cells.{joined, strike_cells, table_cells, strike_at, strikes_from, strikes_in, outcome_in, ruling_in, Held}
 use Rattle.ruling_text.specs.Code.{Laid, TextTaken, ending_cells, answered, answered_by}
-use Rattle.ruling_text.specs.declared.RulingRead.TheVariants.{Taken, Refused}
+use Rattle.std.specs.Prelude.{Ok, Err}
+use Rattle.meaning.specs.Answers.{fault_number}
+use Rattle.fields.specs.declared.Misread.{Misread}
 use Rattle.meaning.specs.declared.Ruling.{Ruling}
 use Rattle.ruling_text.proofs.Strikes.{reason-again}
 use Rattle.ruling_text.proofs.Quads.{quads-length}
@@ -147,13 +149,20 @@ module _ {s : List ℕ} {head : Ruling} {t t' k k' : List ℕ} (T : TextTaken s 
 
   pub answer-taken : (table cells : List ℕ) {table' cells' : List ℕ} {n : ℕ} → n ≡ ending_cells head.trainees head.ending → 256 ≤ length t → 16384 ≤ length k
       → table' ≡ sets table 0 (take n t') → cells' ≡ sets cells 0 (take (4 * head.strikes) k')
-      → answered (Taken head) table' cells' ≡ answered_by (read_ruling s) table cells
+      → answered (Ok head) table' cells' ≡ answered_by (read_ruling s) table cells
   unfolding answered_by
   answer-taken table cells m ht hk et ek =
       let x = copied t table (table_cells T.it.outcome) T.laid.in_table (m ∙ taken-cells) (omega (arith, table-few)) et in
       let y = copied k cells (strike_cells T.it.strikes) T.laid.in_cells taken-strikes (omega (arith, strikes-few)) ek in
-      (λ i. answered (Taken (sym T.laid.said i)) (x i) (y i)) ∙ ap (λ z. answered_by z table cells) (sym T.goes)
+      (λ i. answered (Ok (sym T.laid.said i)) (x i) (y i)) ∙ ap (λ z. answered_by z table cells) (sym T.goes)
 
-pub answer-refused : (s table cells : List ℕ) {e l k : ℕ} → read_ruling s ≡ refused e l k → answered (Refused e l k) table cells ≡ answered_by (read_ruling s) table cells
+pub answer-refused : (s table cells : List ℕ) (x : Misread) → read_ruling s ≡ refused (fault_number x.fault) x.line x.field → answered (Err x) table cells ≡ answered_by (read_ruling s) table cells
 unfolding answered_by
-answer-refused s table cells h = ap (λ z. answered_by z table cells) (sym h)
+answer-refused s table cells x h = ap (λ z. answered_by z table cells) (sym h)
+
+-- the front of a list copied over that of another
+pub front-copied : (to from : List ℕ) (n : ℕ) {ys : List ℕ} → ys ≡ take n from → n ≤ length to → n ≤ length from → ys ++ drop n to ≡ sets to 0 (take n from)
+front-copied to from n e h g =
+    let l = length-take-le n from g in
+    let z : 0 + n ≡ n = omega arith in
+    rw (e, sets-eq (take n from) to 0 (omega arith), l, z) refl

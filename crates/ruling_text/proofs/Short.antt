@@ -15,10 +15,10 @@ use Rattle.meaning.specs.Endings.{Outcome}
 use Rattle.meaning.specs.Solver.{WholeRuling}
 use Rattle.meaning.specs.declared.Reason.{Reason}
 use Rattle.meaning.specs.declared.Strike.{Strike}
-use Rattle.fields.specs.Writer.{write_number, write_lines}
+use Rattle.fields.specs.Writer.{write_number, write_lines, write_numbers, write_line}
 use Rattle.fields.proofs.Digits.{ten_to, digits-at-most}
 use Rattle.rulings.specs.Legal.{DEPOTS, LegalReason, legal_barred, legal_elsewhere, legal_gone, legal_passed, LegalStrike, LegalOutcome, legal_table, legal_held, legal_room, LegalRuling}
-use Rattle.ruling_text.specs.Writer.{write_numbers, write_line, write_strike, write_cell, write_none, write_outcome, write_head, ruling_text}
+use Rattle.ruling_text.specs.Writer.{write_strike, write_cell, write_none, write_outcome, write_head, ruling_text}
 
 -- ---- a number with its tab, by how many digits it has
 

@@ -14,13 +14,13 @@ use Rattle.meaning.specs.declared.Reason.TheVariants.{Barred, HeldElsewhere, Pos
 use Rattle.meaning.specs.declared.Strike.{Strike}
 use Rattle.fields.specs.Bytes.{LF, stop?}
 use Rattle.fields.specs.Reader.{got, line_end, keyword, number}
-use Rattle.fields.specs.Writer.{write_number}
+use Rattle.fields.specs.Writer.{write_number, write_numbers, write_line}
 use Rattle.fields.proofs.Steps.{went, got-value, got-rest, on_line_lem}
 use Rattle.fields.proofs.Words.{Word, stops, end-there, end_back, keyword-there, keyword-back, number-stops, lf-stops, number-there, number-back}
 use Rattle.fields.proofs.Lines.{Line}
 use Rattle.ruling_text.specs.Words.{word_S}
 use Rattle.rulings.specs.Legal.{DEPOTS, LegalReason, legal_barred, legal_elsewhere, legal_gone, legal_passed, LegalStrike}
-use Rattle.ruling_text.specs.Writer.{write_numbers, write_line, write_strike}
+use Rattle.ruling_text.specs.Writer.{write_strike}
 use Rattle.ruling_text.specs.Reader.{Pair, pair, low_witness, high_witness, reason_of, reason, strike_fields, strike_line, weightless}
 
 pub weightless-sum : {A : Type 0} (xs : List A) → weigh weightless xs ≡ 0

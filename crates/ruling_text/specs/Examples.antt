@@ -15,7 +15,8 @@ use Rattle.fields.specs.Reader.{unless, first, field, line_end, keyword, at_end,
 use Rattle.fields.specs.Writer.{write_number, write_lines}
 use Rattle.fields.specs.Shown.{shown}
 use Rattle.rulings.specs.Legal.{every?, in?, legal_reason?, legal_strike?, legal_outcome?, legal_ruling?}
-use Rattle.ruling_text.specs.Writer.{write_numbers, write_line, write_strike, write_cell, write_none, write_outcome, write_head, ruling_text}
+use Rattle.fields.specs.Writer.{write_numbers, write_line}
+use Rattle.ruling_text.specs.Writer.{write_strike, write_cell, write_none, write_outcome, write_head, ruling_text}
 use Rattle.ruling_text.specs.Reader.{pair, low_witness, high_witness, reason_of, reason, strike_fields, strike_line, weightless, cell_fields, cell_line, none_of, none_fields, table, outcome, lines_of, end_fields, finish, conclusion, sizes, head_fields, body, ruling, Read, taken, refused, answer, read_ruling}
 
 ruling_of : ℕ → List Strike → Outcome → WholeRuling

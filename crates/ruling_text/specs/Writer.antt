@@ -6,17 +6,8 @@ use Rattle.meaning.specs.Endings.{Outcome, placed_by, none_held, none_room}
 use Rattle.meaning.specs.Solver.{WholeRuling}
 use Rattle.meaning.specs.declared.Strike.{Strike}
 use Rattle.fields.specs.Bytes.{LF, word_end}
-use Rattle.fields.specs.Writer.{write_number, write_lines}
+use Rattle.fields.specs.Writer.{write_line, write_lines}
 use Rattle.ruling_text.specs.Words.{word_ruling, word_S, word_A, word_N}
-
--- numbers, a field each
-unfoldable pub write_numbers : List ℕ → List ℕ
-write_numbers [] = []
-write_numbers (v ∷ vs) = write_number v ++ write_numbers vs
-
--- a line: a word, and then numbers
-unfoldable pub write_line : List ℕ → List ℕ → List ℕ
-write_line w vs = w ++ write_numbers vs ++ LF ∷ []
 
 -- trainee, depot, reason, witness; strikes have no running number
 unfoldable pub write_strike : ℕ → Strike → List ℕ

@@ -1,28 +1,30 @@
--- The first line bounds both numbers, so that the tables are long enough.
-use mathlib.Core.Path.{subst}
+-- The length, the first line, and then the rest.
 use native.Mathlib.Omega.{arith}
-use Rattle.ruling_text.specs.Code.{TwoRead, head_numbers}
+use Rattle.std.proofs.Common.{rules}
+use Rattle.std.proofs.lemmas.Result.{err_from_is_err_and}
+use Rattle.ruling_text.specs.Code.{NumbersRead, head_numbers}
+use Rattle.ruling_text.proofs.Lined.{lined, passed}
 use Rattle.ruling_text.proofs.Whole.{text-long, text-no-head, head-n, head_few, text-read}
 use Rattle.ruling_text.proofs.get_ruling.Goals as goal
 
 pub returns-then-s-gt65536 : goal.returns-then-s-gt65536
 returns-then-s-gt65536 c = text-long c.args.s.now c.if-s-gt65536.true
 
+pub returns-in_err-n : goal.returns-in_err-n
+returns-in_err-n c =
+    let p = err_from_is_err_and c.from_residual.result c.from_residual.ensures.1 in
+    let t = lined 1 (NumbersRead head_numbers _ _) c.in_err-n.ensures.cases (λ w h. search rules) c.head_at.ensures (λ w h. h) in
+    rw (p.1, p.2, ← t.on) (text-no-head c.args.s.now c.if-s-gt65536.false t.refused)
+
 pub body_at-requires : goal.body_at-requires
 body_at-requires c =
-    let a = c.args in
-    let h = subst (TwoRead head_numbers a.s.now _) c.in-Are.is c.head_at-head.ensures in
-    let n = head-n a.s.now c.if-s-gt65536.false h in
-    let k = head_few a.s.now c.if-s-gt65536.false h in
-    (h.within, n, k, omega arith, omega arith)
+    let H = passed (NumbersRead head_numbers _ _) c.in_ok-n.ensures.cases (λ w h. h) c.head_at.ensures in
+    let n = head-n c.args.s.now c.if-s-gt65536.false H in
+    let k = head_few c.args.s.now c.if-s-gt65536.false H in
+    (n, k, omega arith, omega arith)
 
-pub returns-in-Not : goal.returns-in-Not
-returns-in-Not c =
+pub returns : goal.returns
+returns c =
     let a = c.args in
-    text-no-head a.s.now c.if-s-gt65536.false (subst (TwoRead head_numbers a.s.now _) c.in-Not.is c.head_at-head.ensures)
-
-pub returns-in-Are : goal.returns-in-Are
-returns-in-Are c =
-    let a = c.args in
-    let h = subst (TwoRead head_numbers a.s.now _) c.in-Are.is c.head_at-head.ensures in
-    text-read a.s.now c.if-s-gt65536.false h c.body_at.result a.table.now c.body_at.new.table a.cells.now c.body_at.new.cells c.body_at.ensures
+    let H = passed (NumbersRead head_numbers _ _) c.in_ok-n.ensures.cases (λ w h. h) c.head_at.ensures in
+    text-read a.s.now c.if-s-gt65536.false H c.body_at.result a.table.now c.body_at.new.table a.cells.now c.body_at.new.cells c.body_at.ensures

@@ -1,36 +1,16 @@
 -- The first word says whether a table follows.
-use mathlib.Core.Path.{subst}
-use Rattle.fields.specs.Leaves.{KeywordRead}
-use Rattle.ruling_text.specs.Words.{word_N}
-use Rattle.ruling_text.specs.Code.{NoneRead, RowsRead, cell_numbers}
-use Rattle.ruling_text.proofs.Conclusions.{outcome-no-none, outcome-none, outcome-no-table, outcome-table}
+use Rattle.std.proofs.Common.{rules}
+use Rattle.std.proofs.lemmas.Result.{err_from_is_err_and}
+use Rattle.ruling_text.proofs.Conclusions.{outcome-none, outcome-no-table, outcome-table}
 use Rattle.ruling_text.proofs.outcome_at.Goals as goal
 
-pub none_at-none-requires : goal.none_at-none-requires
-none_at-none-requires c =
-    let a = c.args in
-    (subst (KeywordRead a.s.now a.at word_N) c.in-To.is c.keyword_at-word.ensures).within
+pub returns-in-Ok : goal.returns-in-Ok
+returns-in-Ok c = outcome-none c.args.n c.args.count _ c.in-Ok.ensures.read c.args.table.now _ c.none_at.result c.map_err.result (search rules) c.none_at.ensures
 
-pub returns-in-Not : goal.returns-in-Not
-returns-in-Not c =
-    let a = c.args in
-    let w = subst (KeywordRead a.s.now a.at word_N) c.in-To.is c.keyword_at-word.ensures in
-    outcome-no-none a.s.now a.n a.count a.at (w.goes 1) (subst (NoneRead a.s.now _) c.in-Not.is c.none_at-none.ensures)
+pub returns-in_err-table_at-in-Err : goal.returns-in_err-table_at-in-Err
+returns-in_err-table_at-in-Err c =
+    let p = err_from_is_err_and c.from_residual.result c.from_residual.ensures.1 in
+    rw (p.1, p.2) (outcome-no-table c.args.n c.args.count _ c.in-Err.ensures.read (rw c.in-Err.ensures.kept at c.in_err-table_at-in-Err.ensures))
 
-pub returns-in-Is : goal.returns-in-Is
-returns-in-Is c =
-    let a = c.args in
-    let w = subst (KeywordRead a.s.now a.at word_N) c.in-To.is c.keyword_at-word.ensures in
-    outcome-none a.s.now a.n a.count a.at (w.goes 1) (subst (NoneRead a.s.now _) c.in-Is.is c.none_at-none.ensures a.table.now)
-
-pub returns-in-Refused : goal.returns-in-Refused
-returns-in-Refused c =
-    let a = c.args in
-    let w = subst (KeywordRead a.s.now a.at word_N) c.in-Wrong.is c.keyword_at-word.ensures in
-    outcome-no-table a.s.now a.n a.count a.at w (subst (RowsRead cell_numbers a.s.now _ a.table.now _) c.in-Refused.is c.table_at-rows.ensures)
-
-pub returns-in-To-rows : goal.returns-in-To-rows
-returns-in-To-rows c =
-    let a = c.args in
-    let w = subst (KeywordRead a.s.now a.at word_N) c.in-Wrong.is c.keyword_at-word.ensures in
-    outcome-table a.s.now a.n a.count a.at w (subst (RowsRead cell_numbers a.s.now _ a.table.now _) c.in-To-rows.is c.table_at-rows.ensures)
+pub returns-in_ok-table_at-in-Err : goal.returns-in_ok-table_at-in-Err
+returns-in_ok-table_at-in-Err c = outcome-table c.args.n c.args.count _ c.in-Err.ensures.read (rw c.in-Err.ensures.kept at c.in_ok-table_at-in-Err.ensures)

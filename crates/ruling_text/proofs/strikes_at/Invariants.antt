@@ -1,12 +1,8 @@
 -- The invariant: reading from the start is reading from here, and the cells hold the strikes passed.
-use Prim.Native.Nat.{◌-◌}
 use Rattle.meaning.specs.Answers.{strike_numbers}
 use Rattle.ruling_text.specs.Reader.{strike_line}
 use Rattle.ruling_text.proofs.Turns.{Turn}
 use Rattle.ruling_text.proofs.strikes_at.Given as goal
 
 abbrev pub invariant-loop-c : goal.invariant-loop-c
-invariant-loop-c l = Turn (strike_line l.n) strike_numbers 4 l.s l.at l.count l.initial.cells l.cells l.c l.p
-
-abbrev pub decreases-loop-c : goal.decreases-loop-c
-decreases-loop-c l = l.count - l.c
+invariant-loop-c l = Turn (strike_line l.n) strike_numbers 4 l.initial.text.rest.now l.count l.initial.cells l.cells l.c-counter l.text.rest.now

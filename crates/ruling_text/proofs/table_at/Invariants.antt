@@ -1,12 +1,8 @@
 -- The invariant: reading from the start is reading from here, and the table holds the cells passed.
-use Prim.Native.Nat.{◌-◌}
 use Rattle.ruling_text.specs.Reader.{cell_line}
 use Rattle.ruling_text.specs.Code.{cell_numbers}
 use Rattle.ruling_text.proofs.Turns.{Turn}
 use Rattle.ruling_text.proofs.table_at.Given as goal
 
 abbrev pub invariant-loop-c : goal.invariant-loop-c
-invariant-loop-c l = Turn (cell_line l.count) cell_numbers 1 l.s l.at l.n l.initial.table l.table l.c l.p
-
-abbrev pub decreases-loop-c : goal.decreases-loop-c
-decreases-loop-c l = l.n - l.c
+invariant-loop-c l = Turn (cell_line l.count) cell_numbers 1 l.initial.text.rest.now l.n l.initial.table l.table l.c-counter l.text.rest.now

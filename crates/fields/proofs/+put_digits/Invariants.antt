@@ -1,5 +1,0 @@
--- Each call drops the last digit.
-use Rattle.fields.proofs.+put_digits.Given as goal
-
-abbrev pub decreases-put_digits : goal.decreases-put_digits
-decreases-put_digits l = l.v

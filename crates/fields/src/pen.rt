@@ -1,0 +1,78 @@
+// Bytes put one after the other into an output.
+
+ghost use Rattle.std.specs.Prelude.{◌∷◌, []};
+ghost use Rattle.fields.specs.Number.{digits_of};
+ghost use Rattle.fields.specs.Writer.{write_number, write_numbers, write_line};
+
+// An output, and the position at which its next byte is put.
+#[derive(Drop)]
+pub struct Pen<'a> {
+    pub out: &'a mut [u8],
+    pub at: usize,
+}
+
+impl<'a> Pen<'a> {
+    ghost use Rattle.fields.specs.Pen.{Room, Wrote};
+
+    // Puts one byte.
+    pub fn byte(&mut self, b: u8)
+        requires { Room self.old (b ∷ []) }
+        ensures { Wrote self.old self.new (b ∷ []) }
+    {
+        self.out[self.at] = b;
+        self.at += 1;
+    }
+
+    // Puts the bytes of a word.
+    pub fn word(&mut self, w: &[u8])
+        requires { Room self.old w.now }
+        ensures { Wrote self.old self.new w.now }
+    {
+        let end = self.at + w.len();
+        let out = &mut *self.out;
+        out[self.at..end].copy_from_slice(w);
+        self.at = end;
+    }
+
+    // Puts the digits of a number.
+    fn digits(&mut self, v: u16)
+        requires { Room self.old (digits_of v) }
+        ensures { Wrote self.old self.new (digits_of v) }
+    {
+        if 10 <= v {
+            self.digits(v / 10);
+        }
+        self.byte(48 + (v % 10) as u8);
+    }
+
+    // Puts a number as a field.
+    #[tactic(auto, unfolding(crate::specs::Writer::write_number))]
+    pub fn number(&mut self, v: u16)
+        requires { Room self.old (write_number v) }
+        ensures { Wrote self.old self.new (write_number v) }
+    {
+        self.byte(9);
+        self.digits(v);
+    }
+
+    // Puts numbers, a field each.
+    pub fn numbers(&mut self, vs: &[u16])
+        requires { Room self.old (write_numbers vs.now) }
+        ensures { Wrote self.old self.new (write_numbers vs.now) }
+    {
+        for v in vs {
+            self.number(*v);
+        }
+    }
+
+    // Puts a line of a word and numbers.
+    #[tactic(auto, unfolding(crate::specs::Writer::write_line))]
+    pub fn line(&mut self, w: &[u8], vs: &[u16])
+        requires { Room self.old (write_line w.now vs.now) }
+        ensures { Wrote self.old self.new (write_line w.now vs.now) }
+    {
+        self.word(w);
+        self.numbers(vs);
+        self.byte(10);
+    }
+}
