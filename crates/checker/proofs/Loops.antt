@@ -3,25 +3,24 @@
 
 -- ---- a test of 1 to n, from 1 on
 
-use Prim.Native.Nat.{ℕ, suc, ◌+◌, ◌-◌, ◌≤◌, ◌<◌}
+use Prim.Native.Nat.{ℕ, zero, suc, ◌+◌, ◌-◌, ◌≤◌, ◌<◌}
 use mathlib.Core.Path.{◌≡◌, refl, sym, ap, ap₂, ◌∙◌, subst}
 use mathlib.Core.Logic.{⊎_elim}
 use mathlib.Core.Bool.{Bool, true, false, not, ◌&&◌, true≢false, false≢true}
 use mathlib.Core.Option.{Option, none, some}
 use lib.Pointwise.{pointwise}
 use Rattle.std.specs.Prelude as rust
-use denote.Bor.{Bor}
-use Rattle.std.specs.Option.{is_some, unwrap_or, option_copied, IfSome}
-use Rattle.std.proofs.lemmas.List.{get_or_read}
+use Rattle.std.specs.Option.{is_some}
 use mathlib.Core.List.{List, [], ◌∷◌, ◌++◌}
 use native.Mathlib.Omega.{arith}
 use native.Mathlib.Numerals.{add-one}
-use lib.ListN.{length, get_or, take, set, get_or-eq_default}
-use lib.Seq.{take-suc-set}
+use lib.ListN.{length, get_or, take}
+use lib.Seq.{take-suc}
 use lib.Dec.{ltb, eqb}
 use borrow.Author.Tests.{ltb-true, ltb-false, le-leb, lt-leb, eqb-true, eq-eqb, ne_eqb, not-true, not-false}
-use Rattle.checker.specs.Step.{open_at, ordered}
-use Rattle.checker.specs.Ends.{left_cell, left_cells, tells_stable, obeys_rows, all_obey, table_fits, placed_in, broken_in, room_at, room_in}
+use Rattle.checker.specs.Step.{ordered}
+use Rattle.reasons.specs.Left.{open_at, left_cell, LaidTo}
+use Rattle.checker.specs.Ends.{left_cells, tells_stable, obeys_rows, all_obey, table_fits, placed_in, broken_in, room_at, room_in}
 use Rattle.checker.proofs.Ways.{and-stops, and-goes}
 use Rattle.stability.specs.Search.{found_of, Counts}
 use Rattle.meaning.specs.Numbers.{In, ◌&◌, imp, all}
@@ -65,20 +64,15 @@ module _ (f : ℕ → Bool) where
 
 -- ---- the left table
 
--- what a list has at p, or 0
-got : (w : List ℕ) (p : ℕ) (o : rust.Option (Bor ℕ)) → is_some o ≡ ltb p (length w) → IfSome o (λ x. x.now ≡ get_or w p x.now) → unwrap_or (option_copied o) 0 ≡ get_or w p 0
-got w p rust.None e v = sym (get_or-eq_default w 0 (ltb-false p (length w) (sym e)))
-got w p (rust.Some x) e v = get_or_read w p x.now (ltb-true p (length w) (sym e)) v 0
+-- the front of a table that is laid
+module _ (h e rows old table : List ℕ) (n : ℕ) (laid : LaidTo h e rows old n table) (fits : n ≤ length old) where
+  front-to : (k : ℕ) → k ≤ n → take k table ≡ left_cells h e rows k
+  unfolding left_cells
+  front-to zero l = refl
+  front-to (suc k) l = take-suc table k 0 (omega (arith, laid.long)) ∙ ap₂ (λ (c : List ℕ) (x : ℕ). c ++ (x ∷ [])) (front-to k (omega arith)) (laid.filled k l ∙ ap (left_cell h e rows) (add-one k))
 
-pub left_there : (h e rows : List ℕ) (i p : ℕ) (w : List ℕ) → w ≡ wishes_of h e i → p ≡ first_place_left (get_or rows i 0)
-    → (o : rust.Option (Bor ℕ)) → is_some o ≡ ltb p (length w) → IfSome o (λ x. x.now ≡ get_or w p x.now) → unwrap_or (option_copied o) 0 ≡ left_cell h e rows i
-unfolding left_cell
-left_there h e rows i p w ew ep o eo v = got w p o eo v ∙ rw (ew, ep)
-
-pub left-more : (h e rows : List ℕ) (k : ℕ) (left : List ℕ) → k < length left → take k left ≡ left_cells h e rows k → (x : ℕ) → x ≡ left_cell h e rows (k + 1)
-    → take (k + 1) (set left k x) ≡ left_cells h e rows (k + 1)
-unfolding left_cells
-left-more h e rows k left l inv x ex = rw (add-one k) (take-suc-set left k x l ∙ ap₂ (λ (c : List ℕ) (y : ℕ). c ++ (y ∷ [])) inv (ex ∙ ap (left_cell h e rows) (add-one k)))
+  pub laid-front : take n table ≡ left_cells h e rows n
+  laid-front = front-to n (omega arith)
 
 -- ---- the same cells
 

@@ -13,8 +13,9 @@ use native.Mathlib.Omega.{arith}
 use lib.ListN.{length, get_or, take, get_or-eq_default}
 use lib.Dec.{leb}
 use borrow.Author.Tests.{leb-true, le-leb}
-use Rattle.checker.specs.Ends.{left_cell, left_cells}
+use Rattle.checker.specs.Ends.{left_cells}
 use Rattle.checker.specs.Check.{FullPlacement}
+use Rattle.reasons.specs.Left.{left_cell}
 use Rattle.meaning.specs.Numbers.{In}
 use Rattle.meaning.specs.Placement.{held, Placement, Legal}
 use Rattle.meaning.specs.Full.{Full, whole, full}

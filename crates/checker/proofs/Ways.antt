@@ -5,7 +5,7 @@
 
 use Prim.Native.Nat.{ℕ, suc, ◌-◌, ◌≤◌, ◌<◌}
 use mathlib.Core.Path.{◌≡◌, refl, sym, ap, ◌∙◌}
-use mathlib.Core.Bool.{Bool, true, false, not, true≢false, false≢true}
+use mathlib.Core.Bool.{Bool, true, false, true≢false, false≢true}
 use mathlib.Core.List.{List, [], ◌∷◌}
 use native.Mathlib.Omega.{arith}
 use lib.ListN.{length, get_or, take, set, length-take}
@@ -20,7 +20,8 @@ use Rattle.reasons.specs.contracts.Far.{the_type}
 use Rattle.reasons.specs.contracts.FarPartialOrd.TheImpl.{partial_cmp-value}
 use Rattle.reasons.specs.Answers.{far_number}
 use borrow.Author.Tests.{ltb-true, lt-ltb, le-leb, lt-leb}
-use Rattle.checker.specs.Step.{open_at, ordered, fits_in, may_strike, rows_with}
+use Rattle.checker.specs.Step.{ordered, fits_in, may_strike, rows_with}
+use Rattle.reasons.specs.Left.{open_at}
 use Rattle.meaning.specs.Numbers.{In, ◌&◌}
 use Rattle.meaning.specs.Lists.{place}
 use Rattle.meaning.proofs.Booleans.{and_left}
@@ -55,24 +56,6 @@ module _ (m row j : ℕ) where
   pub depot-marked : 1 ≤ j → j ≤ m → is_marked row (j - 1) ≡ ordered m row j
   unfolding ordered within ◌&◌
   depot-marked a b = rw (le-leb 1 j a, le-leb j m b)
-
--- ---- a place of a trainee's list, p the place found on the list w, counted from 0
-
-module _ (h e rows : List ℕ) (i j : ℕ) (w : List ℕ) (ew : w ≡ wishes_of h e i) where
-  pub not_listed : 0 ≡ place w j → false ≡ open_at h e rows i j
-  unfolding open_at ◌&◌
-  not_listed z = rw (← ew, ← z)
-
-  module _ (p : ℕ) (ep : suc p ≡ place w j) where
-    place_is : place (wishes_of h e i) j ≡ suc p
-    place_is = ap (λ (l : List ℕ). place l j) (sym ew) ∙ sym ep
-
-    pub listed-in-row : FullTables h e → p < 64
-    listed-in-row ft = omega (arith, place_is, place-le (wishes_of h e i) j, ft.trainee_short i)
-
-    pub listed-open : (b : Bool) → b ≡ is_marked (get_or rows i 0) p → not b ≡ open_at h e rows i j
-    unfolding open_at ◌&◌
-    listed-open b eb = let z : suc p - 1 ≡ p = omega arith in rw (place_is, z, lt-ltb 0 (suc p) (omega arith), eb)
 
 -- whoever is open is on the list
 pub open-listed : (h e rows : List ℕ) (i j : ℕ) → open_at h e rows i j ≡ true → 0 < place (wishes_of h e i) j

@@ -8,8 +8,8 @@ ghost use Rattle.meaning.specs.Market.{mutual?};
 ghost use Rattle.ranks.specs.View.{n_of, m_of, posts_of, market_of};
 ghost use Rattle.reasons.specs.Scans.{count_in};
 ghost use Rattle.reasons.specs.Reasons.{settled, above_of};
-ghost use Rattle.checker.specs.Step.{open_at, ordered, fits_in, may_strike, rows_with};
-ghost use Rattle.checker.specs.Ends.{left_cell, left_cells, obeys_rows, all_obey, table_fits, placed_in, broken_in, room_in, ends_in, NamesTrainee};
+ghost use Rattle.checker.specs.Step.{ordered, fits_in, may_strike, rows_with};
+ghost use Rattle.checker.specs.Ends.{left_cells, obeys_rows, all_obey, table_fits, placed_in, broken_in, room_in, ends_in, NamesTrainee};
 ghost use Rattle.checker.specs.Check.{FullPlacement, RulingCells, CheckSays, check_in};
 ghost use Rattle.checker.specs.Turns.{TraineesIn, rows_after, Going, ReplaySays};
 
@@ -35,17 +35,6 @@ fn held_elsewhere(row: u64, m: usize, k: usize, j: usize) -> bool
     ensures { result ≡ ordered m row k & not (eqb k j) }
 {
     marks_depot(row, m, k) && k != j
-}
-
-// Whether (i, j) is mutual and not struck so far: one mark says both.
-fn is_open(rows: &Rows, i: usize, j: usize) -> bool
-    requires { In (n_of rows.now.market.heads.now) i }
-    ensures { result ≡ open_at rows.now.market.heads.now rows.now.market.entries.now rows.now.marks.now i j }
-{
-    match ranks::place_on(rows.market.wishes(i), j) {
-        Some(p) => !rows::marked(rows.marks[i], p),
-        None => false,
-    }
 }
 
 // The part of j's list above i, nothing where it doesn't rank i.
@@ -109,7 +98,7 @@ pub fn may_strike(standing: &Standing, marks: &[u64], s: Strike) -> bool
     };
     let i = usize::from(s.trainee);
     let j = usize::from(s.depot);
-    is_open(&rows, i, j) && reason_fits(standing, marks, i, j, s.reason)
+    rows.is_open(i, j) && reason_fits(standing, marks, i, j, s.reason)
 }
 
 // One step on the rows: an allowed strike is marked, any other changes nothing.
@@ -148,23 +137,12 @@ fn replay(
     Ok(())
 }
 
-// The depot at the first place left of trainee i's list, 0 where none is left.
-fn left_cell(rows: &Rows, i: usize) -> u16
-    requires { In (n_of rows.now.market.heads.now) i }
-    ensures { result ≡ left_cell rows.now.market.heads.now rows.now.market.entries.now rows.now.marks.now i }
-{
-    let p = rows::first_left(rows.marks[i]);
-    rows.market.wishes(i).get(p).copied().unwrap_or(0)
-}
-
 // The left table, in the front of an array.
 fn left_table(rows: &Rows) -> [u16; 256]
     ensures { take (n_of rows.now.market.heads.now) result ≡ left_cells rows.now.market.heads.now rows.now.market.entries.now rows.now.marks.now (n_of rows.now.market.heads.now) }
 {
     let mut left = [0; 256];
-    for k in 0..rows.market.trainees() {
-        left[k] = left_cell(rows, k + 1);
-    }
+    rows.lay_left(&mut left);
     left
 }
 
@@ -198,7 +176,7 @@ fn held_broken(holds: &[u64], rows: &Rows, i: usize, j: usize) -> bool
     requires { (n_of rows.now.market.heads.now < length holds.now) × In (n_of rows.now.market.heads.now) i }
     ensures { result ≡ broken_in rows.now.market.heads.now rows.now.market.entries.now holds.now rows.now.marks.now i j }
 {
-    marks_depot(holds[i], rows.market.depots(), j) && !is_open(rows, i, j)
+    marks_depot(holds[i], rows.market.depots(), j) && !rows.is_open(i, j)
 }
 
 // Whether the named pair is mutual, everything of the trainee down to the depot is struck, and the counts leave room there.

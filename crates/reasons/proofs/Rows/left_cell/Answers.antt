@@ -1,8 +1,8 @@
--- Past the list's end nothing stands, so that where none is left the cell is 0. Assumes nothing.
+-- Past the list's end nothing stands, so that where none is left the cell is 0.
 use mathlib.Core.Path.{ap, ◌∙◌}
 use Rattle.std.specs.Option.{unwrap_or}
-use Rattle.checker.proofs.Loops.{left_there}
-use Rattle.checker.proofs.left_cell.Goals as goal
+use Rattle.reasons.proofs.Lefts.{left_there}
+use Rattle.reasons.proofs.Rows.left_cell.Goals as goal
 
 pub returns : goal.returns
 returns c =
