@@ -9,7 +9,8 @@ use native.Mathlib.Omega.{arith}
 use lib.ListN.{length, get_or}
 use lib.Dec.{ltb, eqb}
 use borrow.Author.Tests.{ltb-true, lt-ltb, not-true}
-use Rattle.checker.specs.Step.{open_at, ordered, fits_in, may_strike}
+use Rattle.checker.specs.Step.{ordered, fits_in, may_strike}
+use Rattle.reasons.specs.Left.{open_at}
 use Rattle.meaning.specs.Numbers.{In, ◌&◌}
 use Rattle.meaning.specs.Lists.{place}
 use Rattle.meaning.specs.Market.{mutual?}

@@ -2,7 +2,7 @@
 -- Assumes nothing.
 
 use Prim.Native.Nat.{ℕ, zero, suc, ◌+◌, ◌≤◌, ◌<◌}
-use mathlib.Core.Path.{◌≡◌, refl, sym, ap, ◌∙◌, subst}
+use mathlib.Core.Path.{◌≡◌, refl, sym, ap, ◌∙◌}
 use mathlib.Core.Bool.{Bool}
 use mathlib.Core.List.{List, []}
 use native.Mathlib.Omega.{arith}
@@ -26,24 +26,18 @@ use Rattle.reasons.specs.Rows.{standing_of, OrderRows}
 use Rattle.reasons.specs.Orders.{order_in, orders_in, FullOrders, Noted}
 use Rattle.reasons.proofs.Noting.{noted-none, standing-noted}
 use Rattle.strikes.specs.Cells.{strikes_in}
-use Rattle.checker.specs.declared.Replayed.{Replayed}
-use Rattle.checker.specs.declared.Replayed.TheVariants.{AllAllowed, Stopped}
+use Rattle.std.specs.Prelude.{Err}
 use Rattle.meaning.specs.declared.Ruling.{Ruling}
 use Rattle.meaning.specs.declared.Checked.{Checked}
 use Rattle.meaning.specs.declared.Checked.TheVariants.{Accepted, NotAllowed}
 
-module _ (h e holds bars : List ℕ) (r : Ruling) (table cells : List ℕ) (count : ℕ) (ec : count ≡ r.strikes) (rows : List ℕ) (x : Replayed)
-    (says : ReplaySays h e holds bars cells count rows x) where
+module _ (h e holds bars : List ℕ) (r : Ruling) (table cells : List ℕ) (count : ℕ) (ec : count ≡ r.strikes) (rows : List ℕ) where
   -- a strike that isn't allowed is the answer
-  pub check-stops : (k : ℕ) → x ≡ Stopped k → CheckSays h e holds bars r table cells (NotAllowed k)
-  check-stops k ex os stands =
-      let w : ReplaySays h e holds bars cells count rows (Stopped k) = subst (ReplaySays h e holds bars cells count rows) ex says in
-      sym (ap (λ (c : ℕ). answer_from h e holds bars os (outcome_in (n_of h) r.ending table) [] (strikes_in cells c) 1) (sym ec) ∙ w os (outcome_in (n_of h) r.ending table))
+  pub check-stops : (k : ℕ) → ReplaySays h e holds bars cells count rows (Err k) → CheckSays h e holds bars r table cells (NotAllowed k)
+  check-stops k says os stands =
+      sym (ap (λ (c : ℕ). answer_from h e holds bars os (outcome_in (n_of h) r.ending table) [] (strikes_in cells c) 1) (sym ec) ∙ says os (outcome_in (n_of h) r.ending table))
 
-  module _ (ex : x ≡ AllAllowed) where
-    pub all-going : Going h e holds bars cells count count rows
-    all-going = subst (ReplaySays h e holds bars cells count rows) ex says
-
+  module _ (all-going : Going h e holds bars cells count count rows) where
     -- after the last strike the ending is
     pub check-ends : FullTables h e → OrderRows h holds bars → NamesTrainee (n_of h) r.ending → (b : Bool) → b ≡ ends_in h e holds bars rows r.ending table
         → CheckSays h e holds bars r table cells (step_by (r.strikes + 1) b Accepted)

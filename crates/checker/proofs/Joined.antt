@@ -15,10 +15,11 @@ use lib.ListN.{length, get_or, take}
 use lib.Dec.{ltb, eqb}
 use borrow.Author.Tests.{lt-ltb, eqb-true, eq-eqb, ne_eqb, not-true}
 use Rattle.checker.specs.Step.{ordered}
-use Rattle.checker.specs.Ends.{left_cell, left_cells, obeys_rows, all_obey, table_fits, placed_in, broken_in, room_at, room_in, ends_in, NamesTrainee}
+use Rattle.checker.specs.Ends.{left_cells, obeys_rows, all_obey, table_fits, placed_in, broken_in, room_at, room_in, ends_in, NamesTrainee}
 use Rattle.rulings.specs.Held.{outcome_in}
 use Rattle.checker.proofs.Ways.{and-stops, and-goes}
 use Rattle.checker.proofs.Allowed.{open-same}
+use Rattle.reasons.specs.Left.{left_cell}
 use Rattle.meaning.specs.Numbers.{In, ◌&◌, imp, all}
 use Rattle.meaning.specs.Lists.{place}
 use Rattle.meaning.specs.Placement.{Order}

@@ -3,28 +3,33 @@
 
 -- ---- a test of 1 to n, from 1 on
 
-use Prim.Native.Nat.{ℕ, suc, ◌+◌, ◌-◌, ◌≤◌, ◌<◌}
+use Prim.Native.Nat.{ℕ, zero, suc, ◌+◌, ◌-◌, ◌≤◌, ◌<◌}
 use mathlib.Core.Path.{◌≡◌, refl, sym, ap, ap₂, ◌∙◌, subst}
 use mathlib.Core.Logic.{⊎_elim}
-use mathlib.Core.Bool.{Bool, true, false, not}
+use mathlib.Core.Bool.{Bool, true, false, not, ◌&&◌, true≢false, false≢true}
+use mathlib.Core.Option.{Option, none, some}
+use lib.Pointwise.{pointwise}
+use Rattle.std.specs.Prelude as rust
+use Rattle.std.specs.Option.{is_some}
 use mathlib.Core.List.{List, [], ◌∷◌, ◌++◌}
 use native.Mathlib.Omega.{arith}
 use native.Mathlib.Numerals.{add-one}
-use lib.ListN.{drop_of_length-le, length, get_or, take, drop, set, get_or-eq_default}
-use lib.Seq.{length-take-le, take-suc-set, drop-cons}
-use lib.Dec.{ltb, leb, eqb}
-use borrow.Author.Tests.{le-leb, lt-leb, eqb-true, eq-eqb, ne_eqb, not-true, not-false}
-use Rattle.checker.specs.Step.{open_at, ordered}
-use Rattle.checker.specs.Ends.{left_cell, left_cells, tells_stable, obeys_rows, all_obey, table_fits, placed_in, broken_in, room_at, room_in}
-use Rattle.checker.proofs.Ways.{and-stops, and-goes, down-far}
-use Rattle.stability.specs.Search.{Counts}
+use lib.ListN.{length, get_or, take}
+use lib.Seq.{take-suc}
+use lib.Dec.{ltb, eqb}
+use borrow.Author.Tests.{ltb-true, ltb-false, le-leb, lt-leb, eqb-true, eq-eqb, ne_eqb, not-true, not-false}
+use Rattle.checker.specs.Step.{ordered}
+use Rattle.reasons.specs.Left.{open_at, left_cell, LaidTo}
+use Rattle.checker.specs.Ends.{left_cells, tells_stable, obeys_rows, all_obey, table_fits, placed_in, broken_in, room_at, room_in}
+use Rattle.checker.proofs.Ways.{and-stops, and-goes}
+use Rattle.stability.specs.Search.{found_of, Counts}
 use Rattle.meaning.specs.Numbers.{In, ◌&◌, imp, all}
-use Rattle.meaning.specs.Market.{Table, mutual?, placed, Stable}
+use Rattle.meaning.specs.Market.{Market, Table, mutual?, placed, Stable}
 use Rattle.meaning.specs.Endings.{table_of, within?, stable?, same_cells}
-use Rattle.meaning.specs.Stability.{test_by}
+use Rattle.meaning.specs.Stability.{first_over, test_by}
 use Rattle.meaning.specs.Truth.{TestSays, says_stable, says_stranger, says_over, says_blocking}
 use Rattle.meaning.proofs.Booleans.{true-or-false, never, is_false, iff, and_left, and_right, and_intro, imp_use, imp_intro}
-use Rattle.meaning.proofs.Numbers.{order, same, all-use, all-intro}
+use Rattle.meaning.proofs.Numbers.{order, same, all-use, all-intro, Smallest, least, no-least, smallest-is}
 use Rattle.meaning.proofs.Pairs.{mutual-is}
 use Rattle.meaning.proofs.Matchings.{stable-is, is-stable}
 use Rattle.meaning.proofs.Stability.{test-says}
@@ -34,8 +39,7 @@ use Rattle.rows.proofs.Marking.{marked-at-place, marked-elsewhere, turned-at}
 use Rattle.rows.proofs.FirstPlace.{first-at-most, before-first-marked, first-unmarked}
 use Rattle.ranks.specs.View.{n_of, m_of, wishes_of, posts_of, market_of, FullTables}
 use Rattle.ranks.proofs.Tables.{ranged-tables}
-use Rattle.reasons.specs.Rows.{OrderRows}
-use Rattle.reasons.specs.Reasons.{settled, settled_by}
+use Rattle.reasons.specs.Reasons.{settled}
 use Rattle.meaning.specs.declared.Tested.{Tested}
 
 module _ (f : ℕ → Bool) where
@@ -60,83 +64,74 @@ module _ (f : ℕ → Bool) where
 
 -- ---- the left table
 
-module _ (h e rows : List ℕ) (i p : ℕ) (w : List ℕ) (ew : w ≡ wishes_of h e i) (ep : p ≡ first_place_left (get_or rows i 0)) where
-  pub left_there : get_or w p 0 ≡ left_cell h e rows i
-  unfolding left_cell
-  left_there = rw (ew, ep)
+-- the front of a table that is laid
+module _ (h e rows old table : List ℕ) (n : ℕ) (laid : LaidTo h e rows old n table) (fits : n ≤ length old) where
+  front-to : (k : ℕ) → k ≤ n → take k table ≡ left_cells h e rows k
+  unfolding left_cells
+  front-to zero l = refl
+  front-to (suc k) l = take-suc table k 0 (omega (arith, laid.long)) ∙ ap₂ (λ (c : List ℕ) (x : ℕ). c ++ (x ∷ [])) (front-to k (omega arith)) (laid.filled k l ∙ ap (left_cell h e rows) (add-one k))
 
-  pub left-none : length w ≤ p → 0 ≡ left_cell h e rows i
-  left-none l = sym (get_or-eq_default w 0 l) ∙ left_there
-
-pub left-more : (h e rows : List ℕ) (k : ℕ) (left : List ℕ) → k < length left → take k left ≡ left_cells h e rows k → (x : ℕ) → x ≡ left_cell h e rows (k + 1)
-    → take (k + 1) (set left k x) ≡ left_cells h e rows (k + 1)
-unfolding left_cells
-left-more h e rows k left l inv x ex = rw (add-one k) (take-suc-set left k x l ∙ ap₂ (λ (c : List ℕ) (y : ℕ). c ++ (y ∷ [])) inv (ex ∙ ap (left_cell h e rows) (add-one k)))
+  pub laid-front : take n table ≡ left_cells h e rows n
+  laid-front = front-to n (omega arith)
 
 -- ---- the same cells
 
-module _ (a b : List ℕ) (k : ℕ) (q : Bool) (inv : q ≡ same_cells (drop k a) (drop k b)) (long : length a ≡ length b) where
-  same_here : k < length a → q ≡ (eqb (get_or a k 0) (get_or b k 0) & same_cells (drop (k + 1) a) (drop (k + 1) b))
-  unfolding same_cells
-  same_here l = let u : k < length b = omega arith in inv ∙ rw (add-one k, drop-cons a k 0 l, drop-cons b k 0 u)
+same-both : (b c d : Bool) → c ≡ d → (b && c) ≡ (b & d)
+unfolding ◌&◌
+same-both true c d e = e
+same-both false c d e = refl
 
-  pub same_more : k < length a → get_or a k 0 ≡ get_or b k 0 → q ≡ same_cells (drop (k + 1) a) (drop (k + 1) b)
-  unfolding ◌&◌
-  same_more l e = same_here l ∙ rw (eq-eqb (get_or a k 0) (get_or b k 0) e)
+pub same-is : (a b : List ℕ) → pointwise eqb a b ≡ same_cells a b
+unfolding same_cells
+same-is [] [] = refl
+same-is [] (y ∷ ys) = refl
+same-is (x ∷ xs) [] = refl
+same-is (x ∷ xs) (y ∷ ys) = same-both (eqb x y) _ _ (same-is xs ys)
 
-  pub same_not : k < length a → (get_or a k 0 ≡ get_or b k 0 → ⊥) → false ≡ q
-  unfolding ◌&◌
-  same_not l n = sym (same_here l ∙ rw (ne_eqb (get_or a k 0) (get_or b k 0) n))
+-- ---- no depot over its posts
 
-  pub same-all : length a ≤ k → true ≡ q
-  unfolding same_cells
-  same-all l = let u : length b ≤ k = omega arith in sym (inv ∙ rw (drop_of_length-le a l, drop_of_length-le b u))
+module _ (K : Market) (M : Table) where
+  abbrev none? : Option ℕ → Bool
+  none? none = true
+  none? (some j) = false
 
--- ---- how many are placed, by the counts of all depots
+  within-smallest : (o : Option ℕ) → Smallest K.m (λ j. ltb (K.posts j) (placed K M j)) o → within? K M ≡ none? o
+  unfolding within?
+  within-smallest _ (least j r t h) = is_false _ (λ w. never (all-use K.m _ w j r) (lt-leb (placed K M j) (K.posts j) (ltb-true _ _ t)))
+  within-smallest _ (no-least h) = all-intro K.m _ (λ j r. le-leb (placed K M j) (K.posts j) (ltb-false _ _ (h j r)))
 
-module _ (h e cells counts : List ℕ) (counted : Counts (table_of cells) (n_of h) counts) where
-  placed-count : (j c : ℕ) → j ≤ 64 → c ≡ get_or counts j 0 → c ≡ placed (market_of h e) (table_of cells) j
-  unfolding placed market_of
-  placed-count j c l ec = ec ∙ counted j l
+  none-found : (o : rust.Option ℕ) (b : Bool) → is_some o ≡ not b → b ≡ none? (found_of o)
+  unfolding found_of
+  none-found rust.None true e = refl
+  none-found rust.None false e = absurd (false≢true e)
+  none-found (rust.Some j) true e = absurd (true≢false e)
+  none-found (rust.Some j) false e = refl
 
-  -- depot j has no more trainees than posts
-  abbrev pub fits_posts : ℕ → Bool
-  fits_posts j = leb (placed (market_of h e) (table_of cells) j) (posts_of h j)
+  -- o is what the search for the first depot over its posts finds
+  pub within-first : (o : rust.Option ℕ) → found_of o ≡ first_over K M → (b : Bool) → is_some o ≡ not b → within? K M ≡ b
+  unfolding first_over
+  within-first o eo b eb = within-smallest _ (smallest-is K.m (λ j. ltb (K.posts j) (placed K M j))) ∙ ap none? (sym eo) ∙ sym (none-found o b eb)
 
-  pub posts-fit : (j c p : ℕ) → j ≤ 64 → c ≡ get_or counts j 0 → p ≡ posts_of h j → c ≤ p → fits_posts j ≡ true
-  posts-fit j c p low ec ep l = rw (← placed-count j c low ec, ← ep) (le-leb c p l)
+-- ---- the named pair of kind 2
 
-  pub posts-over : (j c p : ℕ) → j ≤ 64 → c ≡ get_or counts j 0 → p ≡ posts_of h j → p < c → fits_posts j ≡ false
-  posts-over j c p low ec ep l = rw (← placed-count j c low ec, ← ep) (lt-leb c p l)
+module _ (h e : List ℕ) (ft : FullTables h e) (i j : ℕ) where
+  pub room-depot : mutual? (market_of h e) i j ≡ true → In (m_of h) j
+  unfolding market_of
+  room-depot t = (ranged-tables h e ft).depot_in_range i j (mutual-is (market_of h e) i j t).ranks
 
-  pub within_all : Passed fits_posts (m_of h) → true ≡ within? (market_of h e) (table_of cells)
-  unfolding within? market_of
-  within_all p = passed-all fits_posts (m_of h) p
-
-  pub within-not : (k : ℕ) → k < m_of h → fits_posts (k + 1) ≡ false → false ≡ within? (market_of h e) (table_of cells)
-  unfolding within? market_of
-  within-not k l u = passed-not fits_posts (m_of h) k l u
-
-  -- ---- the named pair of kind 2
-
-  module _ (rows : List ℕ) (i j : ℕ) (b : Bool) (eb : b ≡ mutual? (market_of h e) i j) where
-    pub room-strangers : b ≡ false → false ≡ room_at h e rows cells i j
-    unfolding room_at
-    room-strangers u = and-stops _ (sym eb ∙ u)
-
-    pub room-depot : FullTables h e → b ≡ true → In (m_of h) j
-    unfolding market_of
-    room-depot ft t = (ranged-tables h e ft).depot_in_range i j (mutual-is (market_of h e) i j (sym eb ∙ t)).ranks
-
-    module _ (t : b ≡ true) (far : ℕ) (ef : far ≡ settled_by (settled h e rows 1 j i) (settled h e rows 0 j i)) where
-      pub room-near : far < 2 → false ≡ room_at h e rows cells i j
-      unfolding room_at
-      room-near l = and-stops _ (sym (down-far h e rows j i far ef) ∙ lt-leb 2 far l) ∙ and-goes _ (sym eb ∙ t)
-
-      pub room-far : 2 ≤ far → (c p : ℕ) → j ≤ 64 → c ≡ get_or counts j 0 → p ≡ posts_of h j → ltb c p ≡ room_at h e rows cells i j
-      unfolding room_at
-      room-far l c p low ec ep =
-          ap₂ ltb (placed-count j c low ec) ep ∙ and-goes _ (sym (down-far h e rows j i far ef) ∙ le-leb 2 far l) ∙ and-goes _ (sym eb ∙ t)
+  -- by the counts of all depots
+  pub room-counted : (rows cells counts : List ℕ) → Counts (table_of cells) (n_of h) counts
+      → (mutual? (market_of h e) i j & (settled h e rows 0 j i & ltb (get_or counts j 0) (posts_of h j))) ≡ room_at h e rows cells i j
+  unfolding room_at placed market_of
+  room-counted rows cells counts counted = ⊎_elim
+      (λ (t : mutual? (market_of h e) i j ≡ true).
+      let k : j ≤ 64 = omega (arith, (room-depot t).high, ft.few_depots) in
+      ap (λ (c : ℕ). mutual? (market_of h e) i j & (settled h e rows 0 j i & ltb c (posts_of h j))) (placed-count j k))
+      (λ (u : mutual? (market_of h e) i j ≡ false). sym (and-stops _ u) ∙ and-stops _ u)
+      (true-or-false (mutual? (market_of h e) i j))
+    where
+      placed-count : (j : ℕ) → j ≤ 64 → get_or counts j 0 ≡ placed (market_of h e) (table_of cells) j
+      placed-count j l = counted j l
 
 -- ---- held and barred pairs
 
@@ -215,16 +210,24 @@ obeys-at holds bars cells k c b ec eb = sym (eb ∙ rw (ec, add-one k))
 
 -- ---- the named pair of kind 1
 
-module _ (h e holds rows : List ℕ) (i j m : ℕ) (b : Bool) (em : m ≡ m_of h) (eb : b ≡ ordered m (get_or holds i 0) j) where
-  pub broken-not : b ≡ false → false ≡ broken_in h e holds rows i j
+module _ (h e holds rows : List ℕ) (i j m : ℕ) (em : m ≡ m_of h) where
+  pub broken-not : false ≡ ordered m (get_or holds i 0) j → false ≡ broken_in h e holds rows i j
   unfolding broken_in
-  broken-not u = and-stops _ (sym (eb ∙ rw em) ∙ u)
+  broken-not u = and-stops _ (sym (u ∙ rw em))
 
-  pub broken-by : b ≡ true → (o : Bool) → o ≡ open_at h e rows i j → not o ≡ broken_in h e holds rows i j
+  pub broken-by : true ≡ ordered m (get_or holds i 0) j → (o : Bool) → o ≡ open_at h e rows i j → not o ≡ broken_in h e holds rows i j
   unfolding broken_in
-  broken-by t o eo = ap not eo ∙ and-goes _ (sym (eb ∙ rw em) ∙ t)
+  broken-by t o eo = ap not eo ∙ and-goes _ (sym (t ∙ rw em))
 
 -- ---- what the stability test says
+
+not-stable : (t : Tested) → (t ≡ Tested.Stable → ⊥) → tells_stable t ≡ false
+unfolding tells_stable
+not-stable Tested.Stable n = absurd (n refl)
+not-stable (Tested.NotMutual i) n = refl
+not-stable (Tested.OverPosts j) n = refl
+not-stable (Tested.Blocking i j) n = refl
+not-stable (Tested.Refused r) n = refl
 
 stable-same : (h e : List ℕ) → FullTables h e → (M : Table) → tells_stable (test_by (market_of h e) (wishes_of h e) M) ≡ stable? (market_of h e) M
 unfolding tells_stable market_of
@@ -251,60 +254,46 @@ seat-low h e ft cells t k l = ⊎_elim
 
 -- ---- the left table in the front of an array
 
-module _ (h e rows : List ℕ) (n : ℕ) (en : n ≡ n_of h) (left : List ℕ) (el : take (n_of h) left ≡ left_cells h e rows (n_of h)) where
-  pub cells_are : take (n - 0) left ≡ left_cells h e rows (n_of h)
-  cells_are = let z : n - 0 ≡ n_of h = omega arith in rw (z, el)
+module _ (h e rows : List ℕ) (cells : List ℕ) (ec : cells ≡ left_cells h e rows (n_of h)) (i j : ℕ) where
+  pub room-over : within? (market_of h e) (table_of cells) ≡ false → false ≡ room_in h e rows i j
+  unfolding room_in
+  room-over u = and-stops _ (ap (λ (l : List ℕ). within? (market_of h e) (table_of l)) (sym ec) ∙ u)
 
-  module _ (i j : ℕ) (b : Bool) (eb : b ≡ within? (market_of h e) (table_of (take (n - 0) left))) where
-    pub room-over : b ≡ false → false ≡ room_in h e rows i j
-    unfolding room_in
-    room-over u = and-stops _ (ap (λ (l : List ℕ). within? (market_of h e) (table_of l)) (sym cells_are) ∙ sym eb ∙ u)
+  pub room_within : within? (market_of h e) (table_of cells) ≡ true → room_at h e rows cells i j ≡ room_in h e rows i j
+  unfolding room_in
+  room_within t = ap (λ (l : List ℕ). room_at h e rows l i j) ec ∙ and-goes _ (ap (λ (l : List ℕ). within? (market_of h e) (table_of l)) (sym ec) ∙ t)
 
-    pub room_within : b ≡ true → (r : Bool) → r ≡ room_at h e rows (take (n - 0) left) i j → r ≡ room_in h e rows i j
-    unfolding room_in
-    room_within t r er = er ∙ ap (λ (l : List ℕ). room_at h e rows l i j) cells_are ∙ and-goes _ (ap (λ (l : List ℕ). within? (market_of h e) (table_of l)) (sym cells_are) ∙ sym eb ∙ t)
+-- ---- placed: the cells against the ruling's table
 
--- ---- placed: the cells in the front of an array against the ruling's table
+module _ (h e holds bars table cells : List ℕ) (long : length cells ≡ n_of h) where
+  table_is : same_cells (take (n_of h) table) cells ≡ pointwise eqb (take (length cells) table) cells
+  table_is = sym (same-is (take (length cells) table) cells ∙ ap (λ k. same_cells (take k table) cells) long)
 
-module _ (h e holds bars table left : List ℕ) (n : ℕ) (en : n ≡ n_of h) (long : n_of h ≤ length left) (b : Bool) (eb : b ≡ same_cells (take (n - 0) table) (take (n - 0) left)) where
-  front-is : n - 0 ≡ n_of h
-  front-is = omega arith
-
-  front_length : length (take (n - 0) left) ≡ n_of h
-  front_length = rw front-is (length-take-le (n_of h) left long)
-
-  table_is : same_cells (take (n_of h) table) (take (n_of h) left) ≡ b
-  table_is = sym (eb ∙ rw front-is)
-
-  pub placed-other : b ≡ false → false ≡ table_fits h e holds bars (take (n_of h) left) table
+  pub placed-other : true ≡ not (pointwise eqb (take (length cells) table) cells) → false ≡ table_fits h e holds bars cells table
   unfolding table_fits
-  placed-other u = and-stops _ (table_is ∙ u)
+  placed-other u = and-stops _ (table_is ∙ not-true _ (sym u))
 
-  module _ (t : b ≡ true) (s : Bool) (test : Tested) (et : test ≡ test_by (market_of h e) (wishes_of h e) (table_of (take (n - 0) left))) (es : s ≡ tells_stable test) (ft : FullTables h e) where
-    front-tested : s ≡ stable? (market_of h e) (table_of (take (n - 0) left))
-    front-tested = es ∙ ap tells_stable et ∙ stable-same h e ft (table_of (take (n - 0) left))
+  module _ (same : false ≡ not (pointwise eqb (take (length cells) table) cells)) (ft : FullTables h e) where
+    cells-same : same_cells (take (n_of h) table) cells ≡ true
+    cells-same = table_is ∙ not-false _ (sym same)
 
-    front-stable : stable? (market_of h e) (table_of (take (n_of h) left)) ≡ s
-    front-stable = sym (front-tested ∙ rw front-is)
-
-    pub placed-unstable : s ≡ false → false ≡ table_fits h e holds bars (take (n_of h) left) table
+    pub placed-unstable : (t : Tested) → t ≡ test_by (market_of h e) (wishes_of h e) (table_of cells) → (t ≡ Tested.Stable → ⊥) → false ≡ table_fits h e holds bars cells table
     unfolding table_fits
-    placed-unstable u = and-stops _ (front-stable ∙ u) ∙ and-goes _ (table_is ∙ t)
+    placed-unstable t et n = and-stops _ (sym (stable-same h e ft (table_of cells)) ∙ ap tells_stable (sym et) ∙ not-stable t n) ∙ and-goes _ cells-same
 
-    pub placed-obeys : s ≡ true → (r : Bool) → r ≡ all_obey (length (take (n - 0) left)) holds bars (take (n - 0) left) → r ≡ table_fits h e holds bars (take (n_of h) left) table
-    unfolding table_fits
-    placed-obeys v r er =
-        er ∙ ap₂ (λ (k : ℕ) (l : List ℕ). all_obey k holds bars l) front_length (ap (λ (k : ℕ). take k left) front-is) ∙ and-goes _ (front-stable ∙ v) ∙ and-goes _ (table_is ∙ t)
+    module _ (stable : Tested.Stable ≡ test_by (market_of h e) (wishes_of h e) (table_of cells)) where
+      cells-stable : stable? (market_of h e) (table_of cells) ≡ true
+      unfolding tells_stable
+      cells-stable = sym (stable-same h e ft (table_of cells)) ∙ ap tells_stable (sym stable)
 
-    -- the depots of a stable table have places in the order rows
-    pub obey-ready : s ≡ true → OrderRows h holds bars
-        → (length (take (n - 0) left) < length holds) × (length (take (n - 0) left) < length bars) × ((k : ℕ) → k < length (take (n - 0) left) → get_or (take (n - 0) left) k 0 ≤ 64)
-    obey-ready v orders = (
-      omega (arith, front_length, orders.holds_long),
-      omega (arith, front_length, orders.bars_long),
-      λ k l. seat-low h e ft (take (n - 0) left) (sym front-tested ∙ v) k (omega (arith, front_length)),
-    )
+      pub placed-obeys : (r : Bool) → r ≡ all_obey (n_of h) holds bars cells → r ≡ table_fits h e holds bars cells table
+      unfolding table_fits
+      placed-obeys r er = er ∙ and-goes _ cells-stable ∙ and-goes _ cells-same
 
-pub placed-left : (h e holds bars rows table left : List ℕ) (r : Bool) → take (n_of h) left ≡ left_cells h e rows (n_of h) → r ≡ table_fits h e holds bars (take (n_of h) left) table → r ≡ placed_in h e holds bars rows table
+      -- the depots of a stable table have places in the order rows
+      pub obey-ready : (k : ℕ) → k < length cells → get_or cells k 0 ≤ 64
+      obey-ready k l = seat-low h e ft cells cells-stable k (omega (arith, long))
+
+pub placed-left : (h e holds bars rows table cells : List ℕ) (r : Bool) → cells ≡ left_cells h e rows (n_of h) → r ≡ table_fits h e holds bars cells table → r ≡ placed_in h e holds bars rows table
 unfolding placed_in
-placed-left h e holds bars rows table left r el er = er ∙ rw el
+placed-left h e holds bars rows table cells r ec er = er ∙ rw ec

@@ -3,8 +3,8 @@
 
 -- p is the placement that the tables hold, and F its full form
 use lib.Seq.{length-take-le}
-use Prim.Native.Nat.{ℕ, zero, suc, ◌-◌, ◌≤◌, ◌<◌}
-use mathlib.Core.Path.{◌≡◌, refl, sym, ◌∙◌, subst}
+use Prim.Native.Nat.{ℕ, zero, suc, ◌≤◌, ◌<◌}
+use mathlib.Core.Path.{◌≡◌, refl, subst}
 use mathlib.Core.Logic.{⊎_elim}
 use mathlib.Core.Bool.{true}
 use mathlib.Core.Option.{some}
@@ -12,29 +12,27 @@ use mathlib.Core.List.{List, [], ◌∷◌, ◌++◌}
 use native.Mathlib.Omega.{arith}
 use lib.ListN.{length, get_or, take, get_or-eq_default}
 use lib.Dec.{leb}
-use borrow.Author.Tests.{leb-true, le-leb, eq-eqb}
-use Rattle.checker.specs.Ends.{left_cell, left_cells}
+use borrow.Author.Tests.{leb-true, le-leb}
+use Rattle.checker.specs.Ends.{left_cells}
 use Rattle.checker.specs.Check.{FullPlacement}
+use Rattle.reasons.specs.Left.{left_cell}
 use Rattle.meaning.specs.Numbers.{In}
 use Rattle.meaning.specs.Placement.{held, Placement, Legal}
 use Rattle.meaning.specs.Full.{Full, whole, full}
 use Rattle.meaning.specs.Market.{Table}
 use Rattle.meaning.specs.Endings.{table_of}
-use Rattle.meaning.specs.Stability.{test_by, test}
 use Rattle.meaning.proofs.Booleans.{and_left, and_right, and_intro}
 use Rattle.meaning.proofs.Numbers.{order}
-use Rattle.meaning.proofs.Full.{full-trainees}
 use Rattle.rows.specs.Left.{first_place_left}
 use Rattle.tables.specs.Cells.{order_start}
 use Rattle.tables.specs.Decode.{placement_of}
 use Rattle.tables.proofs.Round.{tables-back}
 use Rattle.tables.proofs.Views.{OrderSeen, TablesSeen, tables-seen}
-use Rattle.ranks.specs.View.{n_of, wishes_of, market_of, FullTables}
-use Rattle.ranks.proofs.Held.{market-held, lists-held, full-tables}
+use Rattle.ranks.specs.View.{n_of, wishes_of, FullTables}
+use Rattle.ranks.proofs.Held.{full-tables}
 use Rattle.reasons.specs.Orders.{FullOrders}
 use Rattle.stability.specs.Search.{Counts}
-use Rattle.stability.specs.Test.{long_enough, read_depots, read_beside, test_if_full, test_if_read, test_of}
-use Rattle.meaning.specs.declared.Tested.{Tested}
+use Rattle.stability.specs.Test.{read_depots}
 
 module _ (h e o : List ℕ) (p : Placement) (F : Full) (held_by : placement_of h e o ≡ some p) (its_full : full p ≡ whole F) where
   pub seen : TablesSeen h e o F p.orders
@@ -88,40 +86,20 @@ read_low [] t k = omega arith
 read_low (y ∷ ys) t zero = leb-true y 64 (and_left _ _ t)
 read_low (y ∷ ys) t (suc k) = read_low ys (and_right (leb y 64) _ t) k
 
--- the left table in the front of an array has few enough cells, each of a depot that can be counted
-pub left-countable : (h e rows : List ℕ) → FullTables h e → (n : ℕ) → n ≡ n_of h → (left : List ℕ) → n_of h ≤ length left → take (n_of h) left ≡ left_cells h e rows (n_of h)
-    → (length (take (n - 0) left) ≡ n_of h) × ((i : ℕ) → In (length (take (n - 0) left)) i → table_of (take (n - 0) left) i ≤ 64)
+-- the left table in the front of an array has a cell for each trainee, of a depot that can be counted
+pub record LeftFront (h e rows cells : List ℕ) : Type 0 where
+  pub cells_are : cells ≡ left_cells h e rows (n_of h)
+  pub long : length cells ≡ n_of h
+  pub low : (i : ℕ) → In (length cells) i → table_of cells i ≤ 64
+
+pub left-front : (h e rows : List ℕ) → FullTables h e → (n : ℕ) → n ≡ n_of h → (left : List ℕ) → n_of h ≤ length left → take (n_of h) left ≡ left_cells h e rows (n_of h)
+    → LeftFront h e rows (take n left)
 unfolding table_of
-left-countable h e rows ft n en left long el = (rw z (length-take-le (n_of h) left long), low)
+left-front h e rows ft n en left long el = record { cells_are = rw (en, el); long = rw en (length-take-le (n_of h) left long); low = low }
   where
-    z : n - 0 ≡ n_of h
-    z = omega arith
-
-    low : (i : ℕ) → In (length (take (n - 0) left)) i → table_of (take (n - 0) left) i ≤ 64
+    low : (i : ℕ) → In (length (take n left)) i → table_of (take n left) i ≤ 64
     low zero r = absurd (omega (arith, r.low))
-    low (suc k) r = rw (z, el) (read_low (left_cells h e rows (n_of h)) (left-read h e rows ft (n_of h)) k)
-
--- the stability test refuses no table of as many trainees whose cells can have been read
-pub cells-tested : (h e o : List ℕ) → FullPlacement h e o → (n : ℕ) → n ≡ n_of h → (left : List ℕ) → 256 ≤ length left → read_depots (take (n_of h) left) ≡ true
-    → (t : Tested) → t ≡ test_of h e o n left → t ≡ test_by (market_of h e) (wishes_of h e) (table_of (take (n - 0) left))
-unfolding test_of long_enough test_if_read read_beside test_if_full test
-cells-tested h e o fp n en left long depots t et =
-    let w = seen h e o fp.placement fp.its_full fp.held fp.received in
-    let count : n ≡ length fp.placement.trainees = en ∙ w.sides.trainees ∙ sym (full-trainees fp.placement fp.its_full fp.received) in
-    let z : n - 0 ≡ n = omega arith in
-    let read : read_depots (take n left) ≡ true = rw en depots in
-    et ∙ rw (
-      and_intro fp.long (le-leb 256 (length left) long),
-      test_of,
-      fp.held,
-      test_if_read,
-      and_intro (eq-eqb n (length fp.placement.trainees) count) read,
-      fp.received,
-      test_if_full,
-      z,
-      ← market-held h e fp.its_full w.sides,
-      ← lists-held h e fp.its_full w.sides,
-    )
+    low (suc k) r = rw (en, el) (read_low (left_cells h e rows (n_of h)) (left-read h e rows ft (n_of h)) k)
 
 -- the counts are of all trainees
 pub counts_all : (M : Table) (k n : ℕ) (counts : List ℕ) → k ≡ n → Counts M k counts → Counts M n counts

@@ -3,21 +3,31 @@
 
 -- ---- two tests, the second tried only where the first passes
 
-use Prim.Native.Nat.{ℕ, ◌-◌, ◌≤◌, ◌<◌}
+use Prim.Native.Nat.{ℕ, suc, ◌-◌, ◌≤◌, ◌<◌}
 use mathlib.Core.Path.{◌≡◌, refl, sym, ap, ◌∙◌}
-use mathlib.Core.Bool.{Bool, true, false, not}
+use mathlib.Core.Bool.{Bool, true, false, true≢false, false≢true}
 use mathlib.Core.List.{List, [], ◌∷◌}
 use native.Mathlib.Omega.{arith}
 use lib.ListN.{length, get_or, take, set, length-take}
+use lib.Seq.{length-take-le}
 use lib.Dec.{ltb, leb}
+use denote.Enum.Bare.{sameb}
+use Rattle.std.specs.Prelude as rust
+use Rattle.std.specs.Option.{unwrap_or, is_some}
+use Rattle.std.specs.Ordering.{partial_le}
+use Rattle.reasons.specs.declared.Far.{Far}
+use Rattle.reasons.specs.contracts.Far.{the_type}
+use Rattle.reasons.specs.contracts.FarPartialOrd.TheImpl.{partial_cmp-value}
+use Rattle.reasons.specs.Answers.{far_number}
 use borrow.Author.Tests.{ltb-true, lt-ltb, le-leb, lt-leb}
-use Rattle.checker.specs.Step.{open_at, ordered, fits_in, may_strike, rows_with}
+use Rattle.checker.specs.Step.{ordered, fits_in, may_strike, rows_with}
+use Rattle.reasons.specs.Left.{open_at}
 use Rattle.meaning.specs.Numbers.{In, ◌&◌}
 use Rattle.meaning.specs.Lists.{place}
 use Rattle.meaning.proofs.Booleans.{and_left}
 use Rattle.rows.specs.Marks.{is_marked, with_mark}
 use Rattle.tables.specs.Decode.{within}
-use Rattle.ranks.specs.View.{n_of, m_of, wishes_of, ranking_of, posts_of, Names, FullTables}
+use Rattle.ranks.specs.View.{n_of, m_of, wishes_of, ranking_of, posts_of, place_of, Names, FullTables}
 use Rattle.ranks.proofs.Places.{place-le, on_list, names-take}
 use Rattle.reasons.specs.Scans.{count_in}
 use Rattle.reasons.specs.Reasons.{settled, settled_by, above_of}
@@ -47,24 +57,6 @@ module _ (m row j : ℕ) where
   unfolding ordered within ◌&◌
   depot-marked a b = rw (le-leb 1 j a, le-leb j m b)
 
--- ---- a place of a trainee's list, p the place found on the list w
-
-module _ (h e rows : List ℕ) (i j p : ℕ) (w : List ℕ) (ew : w ≡ wishes_of h e i) (ep : p ≡ place w j) where
-  place_is : place (wishes_of h e i) j ≡ p
-  place_is = ap (λ (l : List ℕ). place l j) (sym ew) ∙ sym ep
-
-  pub not_listed : p ≡ 0 → false ≡ open_at h e rows i j
-  unfolding open_at ◌&◌
-  not_listed z = rw (place_is, z)
-
-  module _ (n : p ≡ 0 → ⊥) where
-    pub listed-in-row : FullTables h e → p - 1 < 64
-    listed-in-row ft = omega (arith, place_is, place-le (wishes_of h e i) j, ft.trainee_short i)
-
-    pub listed-open : (b : Bool) → b ≡ is_marked (get_or rows i 0) (p - 1) → not b ≡ open_at h e rows i j
-    unfolding open_at ◌&◌
-    listed-open b eb = rw (place_is, lt-ltb 0 p (omega arith), eb)
-
 -- whoever is open is on the list
 pub open-listed : (h e rows : List ℕ) (i j : ℕ) → open_at h e rows i j ≡ true → 0 < place (wishes_of h e i) j
 unfolding open_at
@@ -73,17 +65,30 @@ open-listed h e rows i j t = ltb-true 0 (place (wishes_of h e i) j) (and_left _ 
 pub open-depot : (h e rows : List ℕ) (i j : ℕ) → FullTables h e → open_at h e rows i j ≡ true → In (m_of h) j
 open-depot h e rows i j ft t = on_list (In (m_of h)) (wishes_of h e i) j (open-listed h e rows i j t) (ft.trainee_names i)
 
--- ---- the part of a depot's list above a trainee, r the list and p the place found on it
+-- ---- the part of a depot's list above a trainee, r the list, o the place found on it and d where the part ends
 
-module _ (h e : List ℕ) (i j p d : ℕ) (r : List ℕ) (er : r ≡ ranking_of h e j) (ep : p ≡ place r i) (ed : d ≡ p - 1) where
-  pub above-inside : d ≤ length r
-  above-inside = omega (arith, place-le r i)
+ends-at : (o : rust.Option ℕ) → unwrap_or o 0 ≡ place_of o - 1
+ends-at rust.None = omega arith
+ends-at (rust.Some p) = omega arith
 
-  pub above-is : take (d - 0) r ≡ above_of h e i j
+module _ (h e : List ℕ) (i j : ℕ) (r : List ℕ) (er : r ≡ ranking_of h e j) (o : rust.Option ℕ) (eo : place_of o ≡ place r i) (d : ℕ) (ed : d ≡ unwrap_or o 0) where
+  end-is : d ≡ place r i - 1
+  end-is = ed ∙ ends-at o ∙ ap (λ p. p - 1) eo
+
+  pub above-inside : d ≡ length (take d r)
+  above-inside = sym (length-take-le d r (omega (arith, end-is, place-le r i)))
+
+  pub above-is : take d r ≡ above_of h e i j
   unfolding above_of
-  above-is =
-      let z : d - 0 ≡ place (ranking_of h e j) i - 1 = omega (arith, ap (λ (l : List ℕ). place l i) er) in
-      rw (z, er)
+  above-is = rw (end-is, er)
+
+no-place : (o : rust.Option ℕ) → is_some o ≡ false → place_of o ≡ 0
+no-place rust.None z = refl
+no-place (rust.Some p) z = absurd (true≢false z)
+
+some-place : (o : rust.Option ℕ) → is_some o ≡ true → 0 < place_of o
+some-place rust.None t = absurd (false≢true t)
+some-place (rust.Some p) t = omega arith
 
 module _ (h e rows : List ℕ) (i j : ℕ) (ft : FullTables h e) (a : List ℕ) (ea : a ≡ above_of h e i j) where
   above-named : Names (n_of h) a
@@ -101,19 +106,28 @@ module _ (h e rows : List ℕ) (i j : ℕ) (ft : FullTables h e) (a : List ℕ) 
       → leb posts c ≡ leb (posts_of h j) (count_in (settled h e rows 1 j) (above_of h e i j))
   posts-counted posts c ps cs = rw (← ea, ps, cs)
 
-  module _ (k p : ℕ) (ep : p ≡ place a k) where
-    pub not-above : p ≡ 0 → ltb 0 (place (above_of h e i j) k) ≡ false
-    not-above z = let q : place a k ≡ 0 = omega arith in rw (← ea, q)
+  module _ (k : ℕ) (o : rust.Option ℕ) (eo : place_of o ≡ place a k) where
+    pub not-above : is_some o ≡ false → ltb 0 (place (above_of h e i j) k) ≡ false
+    not-above z = let q : place a k ≡ 0 = sym eo ∙ no-place o z in rw (← ea, q)
 
-    pub is-above : (p ≡ 0 → ⊥) → ltb 0 (place (above_of h e i j) k) ≡ true
-    is-above n = rw (← ea) (lt-ltb 0 (place a k) (omega arith))
+    on-part : is_some o ≡ true → 0 < place a k
+    on-part t = omega (arith, eo, some-place o t)
 
-    pub above-trainee : (p ≡ 0 → ⊥) → In (n_of h) k
-    above-trainee n = on_list (In (n_of h)) a k (omega arith) above-named
+    pub is-above : is_some o ≡ true → ltb 0 (place (above_of h e i j) k) ≡ true
+    is-above t = rw (← ea) (lt-ltb 0 (place a k) (on-part t))
 
--- far enough for reason 4
-pub down-far : (h e rows : List ℕ) (j k far : ℕ) → far ≡ settled_by (settled h e rows 1 j k) (settled h e rows 0 j k) → leb 2 far ≡ settled h e rows 0 j k
-down-far h e rows j k far ef = passes-down h e rows (k ∷ []) j 0 far k refl ef
+    pub above-trainee : is_some o ≡ true → In (n_of h) k
+    above-trainee t = on_list (In (n_of h)) a k (on-part t) above-named
+
+-- ---- how far is far enough for reason 4 and for kind 2
+
+down-same : (far : Far) → sameb the_type far Far.Down ≡ partial_le partial_cmp-value.it Far.Down far
+down-same Far.Short = refl
+down-same Far.Above = refl
+down-same Far.Down = refl
+
+pub down-far : (h e rows : List ℕ) (j k : ℕ) (far : Far) → far_number far ≡ settled_by (settled h e rows 1 j k) (settled h e rows 0 j k) → sameb the_type far Far.Down ≡ settled h e rows 0 j k
+down-far h e rows j k far ef = down-same far ∙ passes-down h e rows (k ∷ []) j 0 k far refl ef
 
 -- ---- the step
 
@@ -130,18 +144,19 @@ module _ (h e holds bars rows : List ℕ) (s : Strike) where
   unfolding may_strike
   step-opened t = and_left _ _ t
 
--- the place that is marked, p the place found on the list w
-module _ (h e holds bars rows : List ℕ) (s : Strike) (t : may_strike h e holds bars rows s ≡ true) (i j p : ℕ) (w : List ℕ)
-    (ei : i ≡ s.trainee) (ej : j ≡ s.depot) (ew : w ≡ wishes_of h e i) (ep : p ≡ place w j) where
-  its-place : p ≡ place (wishes_of h e s.trainee) s.depot
-  its-place = ep ∙ rw (ew, ei, ej)
+-- the place that is marked, found on the list w
+module _ (h e holds bars rows : List ℕ) (s : Strike) (t : may_strike h e holds bars rows s ≡ true) (i j : ℕ) (w : List ℕ)
+    (ei : i ≡ s.trainee) (ej : j ≡ s.depot) (ew : w ≡ wishes_of h e i) where
+  its-place : place w j ≡ place (wishes_of h e s.trainee) s.depot
+  its-place = rw (ew, ei, ej)
 
-  pub mark-listed : 1 ≤ p
-  mark-listed = omega (arith, its-place, open-listed h e rows s.trainee s.depot (step-opened h e holds bars rows s t))
+  pub mark-listed : 0 ≡ place w j → ⊥
+  mark-listed z = omega (arith, its-place, open-listed h e rows s.trainee s.depot (step-opened h e holds bars rows s t))
 
-  pub mark-in-row : FullTables h e → p - 1 < 64
-  mark-in-row ft = omega (arith, mark-listed, its-place, place-le (wishes_of h e s.trainee) s.depot, ft.trainee_short s.trainee)
+  module _ (p : ℕ) (ep : suc p ≡ place w j) where
+    pub mark-in-row : FullTables h e → p < 64
+    mark-in-row ft = omega (arith, its-place, place-le (wishes_of h e s.trainee) s.depot, ft.trainee_short s.trainee)
 
-  pub mark_made : set rows i (with_mark (get_or rows i 0) (p - 1)) ≡ rows_with h e rows s
-  unfolding rows_with
-  mark_made = rw (ei, its-place)
+    pub mark_made : set rows i (with_mark (get_or rows i 0) p) ≡ rows_with h e rows s
+    unfolding rows_with
+    mark_made = let q : p ≡ place (wishes_of h e s.trainee) s.depot - 1 = omega (arith, its-place) in rw (ei, q)

@@ -8,16 +8,12 @@ use Rattle.meaning.specs.declared.Ending.{Ending}
 use Rattle.meaning.specs.declared.Ending.TheVariants.{Placed, NoneHeld, NoneRoom}
 use Rattle.meaning.specs.declared.Tested.{Tested}
 use Rattle.rows.specs.Marks.{is_marked}
-use Rattle.rows.specs.Left.{first_place_left}
-use Rattle.ranks.specs.View.{n_of, m_of, wishes_of, posts_of, market_of}
+use Rattle.ranks.specs.View.{n_of, m_of, posts_of, market_of}
 use Rattle.reasons.specs.Reasons.{settled}
-use Rattle.checker.specs.Step.{open_at, ordered}
+use Rattle.reasons.specs.Left.{open_at, left_cell}
+use Rattle.checker.specs.Step.{ordered}
 
 -- ---- the left table
-
--- the depot at the first place left of trainee i's list; 0 where none is left
-unfoldable pub left_cell : List ℕ → List ℕ → List ℕ → ℕ → ℕ
-left_cell h e rows i = get_or (wishes_of h e i) (first_place_left (get_or rows i 0)) 0
 
 -- the cells of trainees 1 to k
 unfoldable pub left_cells : List ℕ → List ℕ → List ℕ → ℕ → List ℕ

@@ -11,10 +11,7 @@ use Rattle.tables.specs.Decode.{within}
 use Rattle.ranks.specs.View.{m_of, wishes_of, posts_of}
 use Rattle.reasons.specs.Scans.{count_in}
 use Rattle.reasons.specs.Reasons.{settled, above_of}
-
--- j stands on i's list at a place without a mark
-unfoldable pub open_at : List ℕ → List ℕ → List ℕ → ℕ → ℕ → Bool
-open_at h e rows i j = ltb 0 (place (wishes_of h e i) j) & not (is_marked (get_or rows i 0) (place (wishes_of h e i) j - 1))
+use Rattle.reasons.specs.Left.{open_at}
 
 -- j is one of 1 to m, and an order row marks it
 unfoldable pub ordered : ℕ → ℕ → ℕ → Bool

@@ -12,8 +12,7 @@ use Rattle.meaning.specs.declared.Checked.TheVariants.{NotAllowed}
 use Rattle.ranks.specs.View.{n_of, wishes_of, market_of}
 use Rattle.reasons.specs.Rows.{RowsHold, standing_of}
 use Rattle.strikes.specs.Cells.{strike_at, strikes_in}
-use Rattle.checker.specs.declared.Replayed.{Replayed}
-use Rattle.checker.specs.declared.Replayed.TheVariants.{AllAllowed, Stopped}
+use Rattle.std.specs.Prelude.{Result, Ok, Err}
 
 -- the strikes are of trainees
 abbrev pub TraineesIn : ℕ → List ℕ → ℕ → Type 0
@@ -41,6 +40,6 @@ pub record Going (h e holds bars cells : List ℕ) (count k : ℕ) (rows : List 
       → answer_from h e holds bars os out [] (strikes_in cells count) 1 ≡ answer_from h e holds bars os out (strikes_in cells k) (strikes_from cells (count - k) k) (k + 1)
 
 -- what a replay says: all strikes are allowed, or k is the first step that isn't
-abbrev pub ReplaySays : List ℕ → List ℕ → List ℕ → List ℕ → List ℕ → ℕ → List ℕ → Replayed → Type 0
-ReplaySays h e holds bars cells count rows AllAllowed = Going h e holds bars cells count count rows
-ReplaySays h e holds bars cells count rows (Stopped k) = (os : List Order) (out : Outcome) → answer_from h e holds bars os out [] (strikes_in cells count) 1 ≡ NotAllowed k
+abbrev pub ReplaySays : List ℕ → List ℕ → List ℕ → List ℕ → List ℕ → ℕ → List ℕ → Result (Unit {0}) ℕ → Type 0
+ReplaySays h e holds bars cells count rows (Ok _) = Going h e holds bars cells count count rows
+ReplaySays h e holds bars cells count rows (Err k) = (os : List Order) (out : Outcome) → answer_from h e holds bars os out [] (strikes_in cells count) 1 ≡ NotAllowed k

@@ -7,3 +7,4 @@ pub mod Steps
 pub mod Starting
 pub mod Tallies
 pub mod Noting
+pub mod Lefts

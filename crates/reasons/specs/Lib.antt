@@ -4,3 +4,4 @@ pub mod Orders
 pub mod Scans
 pub mod Reasons
 pub mod Answers
+pub mod Left

@@ -13,6 +13,7 @@ ghost use Rattle.tables.specs.Cells.{order_start};
 ghost use Rattle.reasons.specs.Scans.{count_in, least_in, smaller_of};
 ghost use Rattle.reasons.specs.Reasons.{settled, settled_by, above_of, number_or, choice_in};
 ghost use Rattle.reasons.specs.Answers.{choice_of, far_number};
+ghost use Rattle.reasons.specs.Left.{open_at, left_cell, LaidTo};
 
 use meaning::Reason;
 use ranks::Market;
@@ -108,6 +109,36 @@ impl<'a> Rows<'a> {
             passed = smaller_if(Far::Down <= far, *k, passed);
         }
         Tally { settled, passed }
+    }
+
+    // Whether (i, j) is mutual and not struck so far: one mark says both.
+    pub fn is_open(&self, i: usize, j: usize) -> bool
+        requires { In (n_of self.now.market.heads.now) i }
+        ensures { result ≡ open_at self.now.market.heads.now self.now.market.entries.now self.now.marks.now i j }
+    {
+        match ranks::place_on(self.market.wishes(i), j) {
+            Some(p) => !rows::marked(self.marks[i], p),
+            None => false,
+        }
+    }
+
+    // The depot at the first place left of trainee i's list, 0 where none is left, as the cell of a table has it.
+    pub fn left_cell(&self, i: usize) -> u16
+        requires { In (n_of self.now.market.heads.now) i }
+        ensures { result ≡ left_cell self.now.market.heads.now self.now.market.entries.now self.now.marks.now i }
+    {
+        let p = rows::first_left(self.marks[i]);
+        self.market.wishes(i).get(p).copied().unwrap_or(0)
+    }
+
+    // Lays the left table over the front of a table.
+    pub fn lay_left(&self, table: &mut [u16])
+        requires { n_of self.now.market.heads.now ≤ length table.old }
+        ensures { LaidTo self.now.market.heads.now self.now.market.entries.now self.now.marks.now table.old (n_of self.now.market.heads.now) table.new }
+    {
+        for k in 0..self.market.trainees() {
+            table[k] = self.left_cell(k + 1);
+        }
     }
 
     // Reasons 3 and 4: the part of j's list above i is walked once.

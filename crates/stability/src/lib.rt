@@ -18,10 +18,10 @@ use ranks::Market;
 
 // Full tables, and a table with a cell for each of their trainees.
 #[derive(Clone, Copy)]
-struct Trial<'a> {
-    market: Market<'a>,
-    table: &'a [u16],
-    ghost known: { TestTables market.heads.now market.entries.now table.now },
+pub struct Trial<'a> {
+    pub market: Market<'a>,
+    pub table: &'a [u16],
+    pub ghost known: { TestTables market.heads.now market.entries.now table.now },
 }
 
 impl<'a> Trial<'a> {
@@ -38,7 +38,7 @@ impl<'a> Trial<'a> {
     }
 
     // The smallest depot over its posts.
-    fn first_over(&self, counts: &[u16; 65]) -> Option<u16>
+    pub fn first_over(&self, counts: &[u16; 65]) -> Option<u16>
         requires { Counts (table_of self.now.table.now) (n_of self.now.market.heads.now) counts.now }
         ensures { found_of result ≡ first_over (market_of self.now.market.heads.now self.now.market.entries.now) (table_of self.now.table.now) }
     {
@@ -87,7 +87,7 @@ impl<'a> Trial<'a> {
     }
 
     // The answer for the table.
-    fn tested(&self) -> Tested
+    pub fn tested(&self) -> Tested
         ensures { result ≡ test_by (market_of self.now.market.heads.now self.now.market.entries.now) (wishes_of self.now.market.heads.now self.now.market.entries.now) (table_of self.now.table.now) }
     {
         match self.first_stranger() {

@@ -1,45 +1,23 @@
 -- After k turns trainees 1 to k obey their rows. Assumes nothing.
-use mathlib.Core.Path.{◌≡◌, ◌∙◌}
+use mathlib.Core.Path.{◌≡◌}
 use native.Mathlib.Omega.{arith}
-use lib.ListN.{length}
 use Rattle.checker.specs.Ends.{all_obey}
-use Rattle.checker.proofs.Loops.{passed_none, passed-more, passed-all, passed-not, obeys-at}
+use Rattle.ranks.specs.View.{n_of}
+use Rattle.checker.proofs.Loops.{passed-more, passed-all, passed-not, obeys-at}
 use Rattle.checker.proofs.all_obey.Goals as goal
-
-pub loop-k-init : goal.loop-k-init
-loop-k-init c = (omega arith, passed_none _)
-
-pub overflow_add-i : goal.overflow_add-i
-overflow_add-i c = omega arith
-
-pub offset_bounds-holds-i : goal.offset_bounds-holds-i
-offset_bounds-holds-i c = omega arith
-
-pub bounds-holds-i : goal.bounds-holds-i
-bounds-holds-i c = omega arith
-
-pub offset_bounds-bars-i : goal.offset_bounds-bars-i
-offset_bounds-bars-i c = omega arith
-
-pub bounds-bars-i : goal.bounds-bars-i
-bounds-bars-i c = omega arith
-
-pub entry_of-requires : goal.entry_of-requires
-entry_of-requires c = omega arith
-
-pub obeys_rows-requires : goal.obeys_rows-requires
-obeys_rows-requires c = rw c.entry_of.ensures (c.requires.2 _ c.loop-k-test.true)
 
 pub returns-then-not-obeys_rows : goal.returns-then-not-obeys_rows
 unfolding all_obey
-returns-then-not-obeys_rows c = let a = c.args in passed-not _ (length a.cells.now) c.loop-k.k c.loop-k-test.true (obeys-at a.holds.now a.bars.now a.cells.now c.loop-k.k _ _ c.entry_of.ensures c.obeys_rows.ensures ∙ c.if-not-obeys_rows.true)
-
-pub loop-k-smaller : goal.loop-k-smaller
-loop-k-smaller c = omega arith
+returns-then-not-obeys_rows c =
+    let s = c.args.standing.now in
+    passed-not _ (n_of s.market.heads.now) c.loop-k.k (omega (arith, c.requires.0)) (obeys-at s.holds.now s.bars.now c.args.cells.now c.loop-k.k _ _ c.from.ensures c.if-not-obeys_rows.ensures)
 
 pub loop-k-preserved : goal.loop-k-preserved
-loop-k-preserved c = let a = c.args in (omega arith, passed-more _ c.loop-k.k c.loop-k.invariant.1 (obeys-at a.holds.now a.bars.now a.cells.now c.loop-k.k _ _ c.entry_of.ensures c.obeys_rows.ensures ∙ c.if-not-obeys_rows.false))
+loop-k-preserved c =
+    let s = c.args.standing.now in
+    passed-more _ c.loop-k.k c.loop-k.invariant (obeys-at s.holds.now s.bars.now c.args.cells.now c.loop-k.k _ _ c.from.ensures c.if-not-obeys_rows.ensures)
 
 pub returns : goal.returns
 unfolding all_obey
-returns c = let e : c.loop-k.k ≡ length c.args.cells.now = omega arith in passed-all _ (length c.args.cells.now) (rw e at c.loop-k.invariant.1)
+returns c =
+    let e : c.loop-k.k ≡ n_of c.args.standing.now.market.heads.now = omega (arith, c.requires.0) in passed-all _ (n_of c.args.standing.now.market.heads.now) (rw e at c.loop-k.invariant)

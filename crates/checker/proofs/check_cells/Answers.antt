@@ -6,14 +6,17 @@ use Rattle.checker.proofs.Answering.{zeros-noted, checks-in}
 use Rattle.checker.proofs.Replaying.{going-none}
 use Rattle.checker.proofs.check_cells.Goals as goal
 
-pub note_orders-requires : goal.note_orders-requires
-note_orders-requires c = (its-tables _ _ _ c.requires.0, its-orders _ _ _ c.requires.0, zeros-noted c.args.heads.now c.args.entries.now c.args.orders.now (its-tables _ _ _ c.requires.0))
+pub invariant_of-market : goal.invariant_of-market
+invariant_of-market c = record { full = its-tables _ _ _ c.requires.0 }
 
-pub start_rows-requires : goal.start_rows-requires
-start_rows-requires c = let ft = its-tables _ _ _ c.requires.0 in (ft, omega (arith, ft.few_trainees))
+pub invariant_of-its_orders : goal.invariant_of-its_orders
+invariant_of-its_orders c = record { full = its-orders _ _ _ c.requires.0; few = omega (arith, c.type_inv.orders 0) }
+
+pub note_all-requires : goal.note_all-requires
+note_all-requires c = zeros-noted c.args.heads.now c.args.entries.now c.args.orders.now (its-tables _ _ _ c.requires.0)
 
 pub check_rows-requires : goal.check_rows-requires
-check_rows-requires c = let ft = its-tables _ _ _ c.requires.0 in (c.requires.0, c.note_orders.ensures.rows, c.requires.1, going-none _ _ _ _ _ _ _ (omega (arith, c.start_rows.auto.rows, ft.few_trainees)) (start-holds _ _ _ c.start_rows.ensures))
+check_rows-requires c = let ft = its-tables _ _ _ c.requires.0 in (c.requires.1, going-none _ _ _ _ _ _ _ (omega (arith, c.start_rows.auto.rows, ft.few_trainees)) (start-holds _ _ _ c.start_rows.ensures))
 
 pub returns : goal.returns
-returns c = checks-in _ _ _ _ _ c.args.ruling _ _ _ (its-orders _ _ _ c.requires.0) c.note_orders.ensures c.check_rows.ensures
+returns c = checks-in _ _ _ _ _ c.args.ruling _ _ _ (its-orders _ _ _ c.requires.0) c.note_all.ensures c.check_rows.ensures

@@ -3,7 +3,7 @@ use Rattle.checker.proofs.Ways.{above-ready, posts-counted}
 use Rattle.checker.proofs.posts_gone.Goals as goal
 
 pub pass_along-t-requires : goal.pass_along-t-requires
-pass_along-t-requires c = let w = above-ready _ _ c.args.rows.now c.args.i c.args.j c.requires.0 _ c.above_part-above.ensures in (c.requires.0, w.0, c.requires.2, w.1)
+pass_along-t-requires c = let r = c.args.rows.now in above-ready _ _ r.marks.now c.args.i c.args.j r.market.full _ c.above_part.ensures
 
 pub returns : goal.returns
-returns c = posts-counted _ _ _ _ _ c.requires.0 _ c.above_part-above.ensures _ _ c.posts_at.ensures c.pass_along-t.ensures.0
+returns c = posts-counted _ _ _ _ _ c.args.rows.now.market.full _ c.above_part.ensures _ _ c.posts.ensures c.pass_along-t.ensures.0

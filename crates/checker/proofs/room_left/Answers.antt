@@ -1,20 +1,27 @@
 -- The front of the array is the left table. Assumes nothing.
+use mathlib.Core.Path.{◌∙◌}
 use native.Mathlib.Omega.{arith}
-use Rattle.checker.proofs.Loops.{room-over, room_within}
-use Rattle.checker.proofs.Placements.{left-countable, counts_all}
+use Rattle.ranks.specs.View.{market_of}
+use Rattle.checker.proofs.Loops.{room-counted, room-over, room_within, within-first}
+use Rattle.checker.proofs.Placements.{left-front, counts_all}
 use Rattle.checker.proofs.room_left.Goals as goal
 
 pub counts_of-counts-requires : goal.counts_of-counts-requires
-counts_of-counts-requires c = let w = left-countable _ _ c.args.rows.now c.requires.0 _ c.trainees_of-n.ensures _ (omega (arith, c.requires.0.few_trainees)) c.left_table-left.ensures in (omega (arith, w.0, c.requires.0.few_trainees), w.1)
+counts_of-counts-requires c = let r = c.args.rows.now in
+    let f = left-front _ _ r.marks.now r.market.full _ c.trainees.ensures _ (omega (arith, r.market.full.few_trainees)) c.left_table-left.ensures in (omega (arith, f.long, r.market.full.few_trainees), f.low)
 
-pub within_posts-requires : goal.within_posts-requires
-within_posts-requires c = let w = left-countable _ _ c.args.rows.now c.requires.0 _ c.trainees_of-n.ensures _ (omega (arith, c.requires.0.few_trainees)) c.left_table-left.ensures in (c.requires.0, counts_all _ _ _ c.counts_of-counts.result w.0 c.counts_of-counts.ensures)
+pub first_over-requires : goal.first_over-requires
+first_over-requires c = let r = c.args.rows.now in
+    let f = left-front _ _ r.marks.now r.market.full _ c.trainees.ensures _ (omega (arith, r.market.full.few_trainees)) c.left_table-left.ensures in counts_all _ _ _ c.counts_of-counts.result f.long c.counts_of-counts.ensures
 
-pub returns-then-not-within_posts : goal.returns-then-not-within_posts
-returns-then-not-within_posts c = room-over _ _ _ _ c.trainees_of-n.ensures _ c.left_table-left.ensures _ _ _ c.within_posts.ensures c.if-not-within_posts.true
+pub returns-then-is_none : goal.returns-then-is_none
+returns-then-is_none c = let r = c.args.rows.now in
+    let f = left-front _ _ r.marks.now r.market.full _ c.trainees.ensures _ (omega (arith, r.market.full.few_trainees)) c.left_table-left.ensures in
+    c.room_at.ensures
+    ∙ room-counted _ _ r.market.full c.args.i c.args.j r.marks.now _ _ (counts_all _ _ _ c.counts_of-counts.result f.long c.counts_of-counts.ensures)
+    ∙ room_within _ _ _ _ f.cells_are c.args.i c.args.j (within-first (market_of r.market.heads.now r.market.entries.now) _ _ c.first_over.ensures _ c.if-is_none.ensures)
 
-pub room_at-requires : goal.room_at-requires
-room_at-requires c = let w = left-countable _ _ c.args.rows.now c.requires.0 _ c.trainees_of-n.ensures _ (omega (arith, c.requires.0.few_trainees)) c.left_table-left.ensures in (c.requires.0, c.requires.1, c.requires.2, counts_all _ _ _ c.counts_of-counts.result w.0 c.counts_of-counts.ensures)
-
-pub returns : goal.returns
-returns c = room_within _ _ _ _ c.trainees_of-n.ensures _ c.left_table-left.ensures _ _ _ c.within_posts.ensures c.if-not-within_posts.false _ c.room_at.ensures
+pub returns-else-is_none : goal.returns-else-is_none
+returns-else-is_none c = let r = c.args.rows.now in
+    let f = left-front _ _ r.marks.now r.market.full _ c.trainees.ensures _ (omega (arith, r.market.full.few_trainees)) c.left_table-left.ensures in
+    c.if-is_none.false ∙ room-over _ _ _ _ f.cells_are c.args.i c.args.j (within-first (market_of r.market.heads.now r.market.entries.now) _ _ c.first_over.ensures _ c.if-is_none.ensures)
