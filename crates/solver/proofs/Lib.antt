@@ -7,3 +7,4 @@ pub mod Searches
 pub mod Whole
 pub mod Guards
 pub mod Fits
+pub mod Sweeping

@@ -13,13 +13,14 @@ use lib.Seq.{get_or-set_same, get_or-set_other}
 use lib.Dec.{ltb}
 use borrow.Author.Tests.{lt-ltb, le-ltb, not-true, not-false}
 use Rattle.solver.specs.Going.{Going, Came, visit_of}
+use Rattle.solver.specs.Sweeping.{reason_in}
 use Rattle.solver.proofs.Lawful.{lawful-tables, listed-tables, nothing-mutual}
 use Rattle.meaning.specs.Numbers.{In, ◌&◌}
 use Rattle.meaning.specs.Lists.{place}
 use Rattle.meaning.specs.Market.{Market, Standing, Lawful, mutual?}
 use Rattle.meaning.specs.Strikes.{Struck, nothing, struck, left?}
 use Rattle.meaning.specs.Solver.{choose, LowestRecord, strike_for, visit}
-use Rattle.meaning.proofs.Booleans.{iff}
+use Rattle.meaning.proofs.Booleans.{true-or-false, none-some, iff}
 use Rattle.meaning.proofs.Numbers.{order, same}
 use Rattle.meaning.proofs.Left.{left-pair}
 use Rattle.meaning.proofs.Records.{struck-last, struck-keeps, struck-new}
@@ -81,6 +82,23 @@ module _ (K : Market) (lists : ℕ → List ℕ) (once : (k : ℕ) → Once (lis
           rw (a, new_row) (marked-elsewhere (get_or rows x.trainee 0) p q n ∙ hold x.trainee (subst (In K.n) a rk) q l ∙ old-test x.trainee q (λ _ e. n e))
       go (inr n) b =
           ap (λ (y : ℕ). is_marked y q) (get_or-set_other rows x.trainee k (with_mark (get_or rows x.trainee 0) p) 0 n) ∙ hold k rk q l ∙ old-test k q (λ e _. n e)
+
+-- ---- the reason at a place
+
+module _ (h e holds bars rows : List ℕ) (i p : ℕ) where
+  pub reason-marked : is_marked (get_or rows i 0) p ≡ true → none ≡ reason_in h e holds bars rows i p
+  unfolding reason_in
+  reason-marked t = rw (t, reason_in)
+
+  pub reason-left : is_marked (get_or rows i 0) p ≡ false → choice_in h e holds bars rows i (get_or (wishes_of h e i) p 0) ≡ reason_in h e holds bars rows i p
+  unfolding reason_in
+  reason-left u = rw (u, reason_in)
+
+  reason-there : (r : Reason) → some r ≡ reason_in h e holds bars rows i p → is_marked (get_or rows i 0) p ≡ false
+  reason-there r q = ⊎_elim
+      (λ (t : is_marked (get_or rows i 0) p ≡ true). none-some (reason-marked t ∙ sym q))
+      (λ u. u)
+      (true-or-false (is_marked (get_or rows i 0) p))
 
 -- ---- the visit
 
@@ -170,3 +188,24 @@ module _ (h e holds bars rows cells : List ℕ) (u i p : ℕ) (g : Going h e hol
             };
             is = same-record ∙ sym struck_is;
           }
+
+  -- by the reason found there
+  pub visit-left : none ≡ reason_in h e holds bars rows i p → Came h e holds bars rows cells u (visit_of h e holds bars i j rec)
+  visit-left q = ⊎_elim
+      (λ (t : is_marked (get_or rows i 0) p ≡ true). visit-marked t)
+      (λ (f : is_marked (get_or rows i 0) p ≡ false). visit-none f (q ∙ sym (reason-left h e holds bars rows i p f)))
+      (true-or-false (is_marked (get_or rows i 0) p))
+
+  module _ (r : Reason) (q : some r ≡ reason_in h e holds bars rows i p) where
+    free : is_marked (get_or rows i 0) p ≡ false
+    free = reason-there h e holds bars rows i p r q
+
+    chosen : some r ≡ choice_in h e holds bars rows i j
+    chosen = q ∙ sym (reason-left h e holds bars rows i p free)
+
+    pub room-there : 4 * u + 4 ≤ length cells
+    room-there = room free r chosen
+
+    pub visit-struck : (d : ℕ) → d ≡ j → (rows' cells' : List ℕ) → rows' ≡ set rows i (with_mark (get_or rows i 0) p)
+        → cells' ≡ cells_with cells u (record { trainee = i; depot = d; reason = r }) → Came h e holds bars rows' cells' (u + 1) (visit_of h e holds bars i j rec)
+    visit-struck = visit-strike free r chosen

@@ -3,3 +3,4 @@ pub mod Going
 pub mod Ends
 pub mod Solved
 pub mod Answer
+pub mod Sweeping

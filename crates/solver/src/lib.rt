@@ -18,93 +18,96 @@ ghost use Rattle.meaning.specs.Full.{Full, whole, full};
 ghost use Rattle.meaning.specs.Placement.{Placement};
 ghost use Rattle.meaning.specs.Solver.{WholeRuling, solve};
 ghost use Rattle.tables.specs.Decode.{placement_of};
-ghost use Rattle.solver.specs.Going.{GoingOn, CameTo, visit_by};
+ghost use Rattle.solver.specs.Going.{visit_by};
+ghost use Rattle.solver.specs.Sweeping.{Sweeping, SweptTo, record_of, reason_at};
 ghost use Rattle.solver.specs.Solved.{AllStruck, ending_in, table_by, SolvedAs};
 ghost use Rattle.solver.specs.Answer.{solve_of, given_by};
 ghost use Rattle.solver.specs.Ends.{struck_in, left_in, broken_in, broken_pair, room_of, left_by, Kept, kept-prop, Counted};
 
-use meaning::{Ending, Refusal, Ruled, Ruling, Strike};
+use meaning::{Ending, Reason, Refusal, Ruled, Ruling, Strike};
 use ranks::Market;
 use reasons::{Orders, Rows, Standing};
 
-// Visits place p of i's list: strikes the pair there if a reason fits. The number of strikes now.
-fn visit_place(
-    standing: &Standing,
-    rows: &mut [u64],
-    cells: &mut [u16],
+// The sweeps' state: the rows of struck places, and the record so far in the front of its cells.
+#[derive(Drop)]
+struct Sweeps<'a, 'r> {
+    standing: &'a Standing<'a>,
+    rows: &'r mut [u64],
+    cells: &'r mut [u16],
     used: usize,
-    i: usize,
-    p: usize,
-) -> usize
-    requires { GoingOn standing.now rows.old cells.old used × In (n_of standing.now.market.heads.now) i × (p < length (wishes_of standing.now.market.heads.now standing.now.market.entries.now i)) }
-    ensures { CameTo standing.now rows.new cells.new result
-        (visit_by standing.now i (get_or (wishes_of standing.now.market.heads.now standing.now.market.entries.now i) p 0) (strikes_in cells.old used)) }
-{
-    if rows::marked(rows[i], p) {
-        return used;
+}
+
+impl<'a, 'r> Sweeps<'a, 'r> {
+    // The reason for which the pair at place p of i's list may be struck now; none where it is struck or not mutual.
+    fn reason_at(&self, i: usize, p: usize) -> Option<Reason>
+        requires { Sweeping self.now × In (n_of self.now.standing.now.market.heads.now) i × (p < length (wishes_of self.now.standing.now.market.heads.now self.now.standing.now.market.entries.now i)) }
+        ensures { choice_of result ≡ reason_at self.now i p }
+    {
+        if rows::marked(self.rows[i], p) {
+            return None;
+        }
+        let standing = self.standing;
+        let depot = standing.market.wishes(i)[p];
+        standing.choose(self.rows, i, usize::from(depot))
     }
-    let depot = standing.market.wishes(i)[p];
-    match standing.choose(rows, i, usize::from(depot)) {
-        None => used,
-        Some(reason) => {
-            rows::mark(rows, i, p);
+
+    // Visits place p of i's list: strikes the pair there if a reason fits.
+    fn visit_place(&mut self, i: usize, p: usize)
+        requires { Sweeping self.old × In (n_of self.old.standing.now.market.heads.now) i × (p < length (wishes_of self.old.standing.now.market.heads.now self.old.standing.now.market.entries.now i)) }
+        ensures { SweptTo self.old self.new
+            (visit_by self.old.standing.now i (get_or (wishes_of self.old.standing.now.market.heads.now self.old.standing.now.market.entries.now i) p 0) (record_of self.old)) }
+    {
+        if let Some(reason) = self.reason_at(i, p) {
+            let standing = self.standing;
             let strike = Strike {
                 trainee: i as u16,
-                depot,
+                depot: standing.market.wishes(i)[p],
                 reason,
             };
-            strikes::put_strike(cells, used, strike);
-            used + 1
+            rows::mark(self.rows, i, p);
+            strikes::put_strike(self.cells, self.used, strike);
+            self.used += 1;
         }
     }
-}
 
-// Visits i's list from its best place.
-fn visit_list(
-    standing: &Standing,
-    rows: &mut [u64],
-    cells: &mut [u16],
-    used: usize,
-    i: usize,
-) -> usize
-    requires { GoingOn standing.now rows.old cells.old used × In (n_of standing.now.market.heads.now) i }
-    ensures { CameTo standing.now rows.new cells.new result
-        (row_by (visit_by standing.now) i (wishes_of standing.now.market.heads.now standing.now.market.entries.now i) (strikes_in cells.old used)) }
-{
-    let mut at = used;
-    for p in 0..standing.market.wishes(i).len() {
-        at = visit_place(standing, rows, cells, at, i, p);
-    }
-    at
-}
-
-// One sweep: trainees upward.
-fn sweep(standing: &Standing, rows: &mut [u64], cells: &mut [u16], used: usize) -> usize
-    requires { GoingOn standing.now rows.old cells.old used }
-    ensures { CameTo standing.now rows.new cells.new result
-        (rows_by (visit_by standing.now) (wishes_of standing.now.market.heads.now standing.now.market.entries.now) (n_of standing.now.market.heads.now) 1 (strikes_in cells.old used)) }
-{
-    let mut at = used;
-    for i in 1..standing.market.trainees() + 1 {
-        at = visit_list(standing, rows, cells, at, i);
-    }
-    at
-}
-
-// Sweeps until one strikes nothing. The number of strikes.
-fn sweep_all(standing: &Standing, rows: &mut [u64], cells: &mut [u16]) -> usize
-    requires { GoingOn standing.now rows.old cells.old 0 }
-    ensures { CameTo standing.now rows.new cells.new result
-        (sweeps_by (visit_by standing.now) length (wishes_of standing.now.market.heads.now standing.now.market.entries.now) (n_of standing.now.market.heads.now) (suc (mutual_pairs (market_of standing.now.market.heads.now standing.now.market.entries.now))) []) }
-{
-    let mut used = 0;
-    // A loop and no `for`: how many sweeps strike is known only when one strikes nothing.
-    loop {
-        let next = sweep(standing, rows, cells, used);
-        if next == used {
-            return next;
+    // Visits i's list from its best place.
+    fn visit_list(&mut self, i: usize)
+        requires { Sweeping self.old × In (n_of self.old.standing.now.market.heads.now) i }
+        ensures { SweptTo self.old self.new
+            (row_by (visit_by self.old.standing.now) i (wishes_of self.old.standing.now.market.heads.now self.old.standing.now.market.entries.now i) (record_of self.old)) }
+    {
+        let standing = self.standing;
+        for p in 0..standing.market.wishes(i).len() {
+            self.visit_place(i, p);
         }
-        used = next;
+    }
+
+    // One sweep: trainees upward.
+    fn sweep(&mut self)
+        requires { Sweeping self.old }
+        ensures { SweptTo self.old self.new
+            (rows_by (visit_by self.old.standing.now) (wishes_of self.old.standing.now.market.heads.now self.old.standing.now.market.entries.now) (n_of self.old.standing.now.market.heads.now) 1 (record_of self.old)) }
+    {
+        let standing = self.standing;
+        for i in 1..standing.market.trainees() + 1 {
+            self.visit_list(i);
+        }
+    }
+
+    // Sweeps until one strikes nothing.
+    fn sweep_all(&mut self)
+        requires { Sweeping self.old × (self.old.used ≡ 0) }
+        ensures { SweptTo self.old self.new
+            (sweeps_by (visit_by self.old.standing.now) length (wishes_of self.old.standing.now.market.heads.now self.old.standing.now.market.entries.now) (n_of self.old.standing.now.market.heads.now) (suc (mutual_pairs (market_of self.old.standing.now.market.heads.now self.old.standing.now.market.entries.now))) []) }
+    {
+        // A loop and no `for`: how many sweeps strike is known only when one strikes nothing.
+        loop {
+            let before = self.used;
+            self.sweep();
+            if self.used == before {
+                return;
+            }
+        }
     }
 }
 
@@ -243,7 +246,14 @@ fn strike_all(orders: &Orders, rows: &mut [u64], cells: &mut [u16]) -> usize
         holds: &holds,
         bars: &bars,
     };
-    sweep_all(&standing, rows, cells)
+    let mut sweeps = Sweeps {
+        standing: &standing,
+        rows,
+        cells,
+        used: 0,
+    };
+    sweeps.sweep_all();
+    sweeps.used
 }
 
 // The solver on plain cells, four to a strike: the ruling, its record in the cells and its table.
