@@ -1,26 +1,32 @@
 -- Which pairs are open by the rows, and the left table as it is laid cell by cell.
 -- Assumes nothing.
 use Prim.Native.Nat.{ℕ, suc, ◌+◌, ◌-◌, ◌<◌}
-use mathlib.Core.Path.{◌≡◌, refl, sym, ap, ◌∙◌}
+use mathlib.Core.Path.{◌≡◌, refl, sym, ap, ◌∙◌, subst}
 use mathlib.Core.Logic.{⊎_elim}
-use mathlib.Core.Bool.{Bool, false, not}
+use mathlib.Core.Bool.{Bool, true, false, not}
 use mathlib.Core.List.{List}
 use native.Mathlib.Omega.{arith}
 use lib.ListN.{length-set, length, get_or, set, get_or-eq_default}
 use lib.Seq.{get_or-set_same, get_or-set_other}
 use lib.Dec.{ltb}
 use denote.Bor.{Bor}
-use borrow.Author.Tests.{ltb-true, ltb-false, lt-ltb}
+use borrow.Author.Tests.{ltb-true, ltb-false, lt-ltb, not-true}
 use Rattle.std.specs.Prelude as rust
 use Rattle.std.specs.Option.{is_some, unwrap_or, option_copied, IfSome}
 use Rattle.std.proofs.lemmas.List.{get_or_read}
-use Rattle.meaning.specs.Numbers.{◌&◌}
+use Rattle.meaning.specs.Numbers.{In, ◌&◌}
 use Rattle.meaning.specs.Lists.{place}
+use Rattle.meaning.specs.Strikes.{Struck, left?}
 use Rattle.meaning.proofs.Numbers.{same}
+use Rattle.meaning.proofs.Booleans.{never, is_false, iff, and_left, and_right, and_intro}
+use Rattle.meaning.proofs.Left.{left-pair}
 use Rattle.rows.specs.Marks.{is_marked}
 use Rattle.rows.specs.Left.{first_place_left}
-use Rattle.ranks.specs.View.{wishes_of, FullTables}
-use Rattle.ranks.proofs.Places.{place-le}
+use Rattle.ranks.specs.View.{n_of, wishes_of, market_of, FullTables}
+use Rattle.ranks.proofs.Places.{place-le, at_place}
+use Rattle.ranks.proofs.Tables.{ranged-tables}
+use Rattle.reasons.specs.Rows.{RowsHold}
+use Rattle.reasons.proofs.Settled.{left_at, marked-at}
 use Rattle.reasons.specs.Left.{open_at, left_cell, LaidTo}
 
 -- ---- a place of a trainee's list, p the place found on the list w, counted from 0
@@ -40,6 +46,38 @@ module _ (h e rows : List ℕ) (i j : ℕ) (w : List ℕ) (ew : w ≡ wishes_of 
     pub listed-open : (b : Bool) → b ≡ is_marked (get_or rows i 0) p → not b ≡ open_at h e rows i j
     unfolding open_at ◌&◌
     listed-open b eb = let z : suc p - 1 ≡ p = omega arith in rw (place_is, z, lt-ltb 0 (suc p) (omega arith), eb)
+
+-- ---- an open pair is a pair left
+
+-- the place of a depot that a trainee ranks is one of the row's
+module _ (h e : List ℕ) (ft : FullTables h e) (i j : ℕ) (l : 0 < place (wishes_of h e i) j) where
+  pub its-place : get_or (wishes_of h e i) (place (wishes_of h e i) j - 1) 0 ≡ j
+  its-place = at_place (wishes_of h e i) j (place (wishes_of h e i) j - 1) (omega arith)
+
+  pub on-its-list : place (wishes_of h e i) j - 1 < length (wishes_of h e i)
+  on-its-list = omega (arith, place-le (wishes_of h e i) j)
+
+  in-its-row : place (wishes_of h e i) j - 1 < 64
+  in-its-row = omega (arith, on-its-list, ft.trainee_short i)
+
+module _ (h e : List ℕ) (ft : FullTables h e) (S : Struck) (rows : List ℕ) (hold : RowsHold (market_of h e) (wishes_of h e) S rows) where
+  -- a place without a mark is a pair left
+  pub open-same : (i j : ℕ) → In (n_of h) i → open_at h e rows i j ≡ left? (market_of h e) S i j
+  unfolding open_at market_of
+  open-same i j ri = iff there back
+    where
+      there : (ltb 0 (place (wishes_of h e i) j) & not (is_marked (get_or rows i 0) (place (wishes_of h e i) j - 1))) ≡ true → left? (market_of h e) S i j ≡ true
+      there t =
+          let l = ltb-true 0 (place (wishes_of h e i) j) (and_left _ _ t) in
+          subst (λ x. left? (market_of h e) S i x ≡ true) (its-place h e ft i j l)
+          (left_at (market_of h e) (ranged-tables h e ft) (wishes_of h e) (λ i j. refl) ft.trainee_short S rows hold i _ ri (in-its-row h e ft i j l)
+          (not-true _ (and_right (ltb 0 (place (wishes_of h e i) j)) _ t))).left
+
+      back : left? (market_of h e) S i j ≡ true → (ltb 0 (place (wishes_of h e i) j) & not (is_marked (get_or rows i 0) (place (wishes_of h e i) j - 1))) ≡ true
+      back t =
+          let l : 0 < place (wishes_of h e i) j = (left-pair (market_of h e) S i j t).ranks in
+          and_intro (lt-ltb 0 (place (wishes_of h e i) j) l) (ap not (is_false _ (λ u. never t (subst (λ x. left? (market_of h e) S i x ≡ false) (its-place h e ft i j l)
+          (marked-at (market_of h e) (ranged-tables h e ft) (wishes_of h e) (λ i j. refl) ft.trainee_short S rows hold i _ ri (in-its-row h e ft i j l) u (on-its-list h e ft i j l))))))
 
 -- ---- the left table
 
