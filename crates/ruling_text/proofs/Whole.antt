@@ -24,15 +24,7 @@ use Rattle.ruling_text.proofs.Round.{head-back}
 -- ---- all that follows the first line
 
 module _ (n c : ℕ) (q : List ℕ) where
-  pub body-no-strikes : {e l k : ℕ} → lines (strike_line n) weightless c 1 0 [] q ≡ refusal e l k → body (record { n = n; s = c }) q ≡ refusal e l k
-  unfolding body
-  body-no-strikes h = rw h
-
   module _ {cells cells' r : List ℕ} (F : Filled strike_numbers (lines (strike_line n) weightless c 1 0 [] q) cells cells' r) where
-    pub body-no-end : {e l k : ℕ} → conclusion n c r ≡ refusal e l k → body (record { n = n; s = c }) q ≡ refusal e l k
-    unfolding body
-    body-no-end h = rw (F.goes, h)
-
     as_many : length F.them ≡ c
     as_many =
         let b = lines-back (strike_line n) weightless write_strike (LegalStrike n) 0 (strike-back n) c 1 0 [] q F.them r F.goes in

@@ -69,11 +69,15 @@ abbrev pub ConclusionRead : Step Outcome → List ℕ → List ℕ → List ℕ 
 ConclusionRead step t t' r (Ok ending) = Concluded step t t' ending r
 ConclusionRead step t t' r (Err x) = step ≡ refusal (fault_number x.fault) x.line x.field
 
--- how many lines an outcome with this ending has
+-- a number of an outcome with this ending: n where there is a table
+abbrev pub placed_or : ℕ → ℕ → Ending → ℕ
+placed_or none n Placed = n
+placed_or none n (NoneHeld i j) = none
+placed_or none n (NoneRoom i j) = none
+
+-- how many lines it has
 abbrev pub ending_lines : ℕ → Ending → ℕ
-ending_lines n Placed = n
-ending_lines n (NoneHeld i j) = 1
-ending_lines n (NoneRoom i j) = 1
+ending_lines n ending = placed_or 1 n ending
 
 -- ---- the whole text
 
@@ -103,9 +107,7 @@ TextRead s table table' cells cells' (Err x) = read_ruling s ≡ refused (fault_
 
 -- how many cells of the table an outcome of n trainees with this ending uses
 abbrev pub ending_cells : ℕ → Ending → ℕ
-ending_cells n Placed = n
-ending_cells n (NoneHeld i j) = 0
-ending_cells n (NoneRoom i j) = 0
+ending_cells n ending = placed_or 0 n ending
 
 -- a refusal's number, line and field
 pub record Refused : Type 0 where

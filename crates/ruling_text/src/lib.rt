@@ -11,7 +11,7 @@ ghost use Rattle.rulings.specs.Legal.{LegalOutcome};
 ghost use Rattle.meaning.specs.Answers.{strike_numbers};
 ghost use Rattle.meaning.specs.Solver.{ending_of};
 ghost use Rattle.ruling_text.specs.Reader.{pair, low_witness, high_witness, reason, strike_fields, strike_line, cell_fields, cell_line, weightless, none_of, none_fields, outcome, end_fields, finish, conclusion, body, sizes, head_fields, read_ruling};
-ghost use Rattle.ruling_text.specs.Code.{pair_numbers, reason_numbers, cell_numbers, head_numbers, NumbersRead, RowsRead, NoneRead, ConclusionRead, ending_lines, BodyRead, TextRead, ending_cells, answered, answered_by};
+ghost use Rattle.ruling_text.specs.Code.{pair_numbers, reason_numbers, cell_numbers, head_numbers, NumbersRead, RowsRead, NoneRead, ConclusionRead, placed_or, BodyRead, TextRead, answered, answered_by};
 ghost use Rattle.ruling_text.specs.Writer.{write_strike, write_cell, write_outcome, ruling_text};
 ghost use Rattle.ruling_text.specs.Cells.{strike_cells, strikes_in, outcome_in, ruling_in, Held};
 
@@ -148,16 +148,6 @@ fn outcome_at(text: &mut Cursor, n: u16, count: usize, table: &mut [u16]) -> Res
     }
 }
 
-// How many lines an outcome of n trainees with this ending has.
-fn lines_of(n: u16, ending: Ending) -> u16
-    ensures { result ≡ ending_lines n ending }
-{
-    match ending {
-        Ending::Placed => n,
-        Ending::NoneHeld(_, _) | Ending::NoneRoom(_, _) => 1,
-    }
-}
-
 // The end line.
 #[tactic(auto, unfolding(crate::specs::Reader::end_fields))]
 fn end_line_at(text: &mut Cursor) -> Result<(), Wrong>
@@ -183,6 +173,16 @@ fn finish_at(text: &mut Cursor, l: usize) -> Result<(), Misread>
     Ok(())
 }
 
+// The n of a table, or another number where there is none: an outcome has a line for each trainee or one line, and a cell for each or none.
+fn placed_or(none: u16, n: u16, ending: Ending) -> u16
+    ensures { result ≡ placed_or none n ending }
+{
+    match ending {
+        Ending::Placed => n,
+        Ending::NoneHeld(_, _) | Ending::NoneRoom(_, _) => none,
+    }
+}
+
 // All that follows `count` strikes.
 #[tactic(auto, unfolding(crate::specs::Reader::conclusion))]
 fn end_at(text: &mut Cursor, n: u16, count: u16, table: &mut [u16]) -> Result<Ending, Misread>
@@ -190,7 +190,7 @@ fn end_at(text: &mut Cursor, n: u16, count: u16, table: &mut [u16]) -> Result<En
     ensures { ConclusionRead (conclusion n count text.old.rest.now) table.old table.new [] result }
 {
     let ending = outcome_at(text, n, count as usize, table)?;
-    let l = count + lines_of(n, ending) + 2;
+    let l = count + placed_or(1, n, ending) + 2;
     finish_at(text, l as usize)?;
     Ok(ending)
 }
@@ -262,16 +262,6 @@ fn copy(to: &mut [u16], from: &[u16], n: usize)
     to[..n].copy_from_slice(&from[..n]);
 }
 
-// How many cells of the table an outcome of n trainees with this ending uses.
-fn cells_of(n: u16, ending: Ending) -> u16
-    ensures { result ≡ ending_cells n ending }
-{
-    match ending {
-        Ending::Placed => n,
-        Ending::NoneHeld(_, _) | Ending::NoneRoom(_, _) => 0,
-    }
-}
-
 // A ruling text, into the fronts of the lent tables; a refusal changes no cell.
 pub fn read_cells(s: &[u8], table: &mut [u16], cells: &mut [u16]) -> Result<Ruling, Misread>
     requires { (256 ≤ length table.old) × (16384 ≤ length cells.old) }
@@ -280,7 +270,7 @@ pub fn read_cells(s: &[u8], table: &mut [u16], cells: &mut [u16]) -> Result<Ruli
     let mut held = [0u16; 256];
     let mut struck = [0u16; 16384];
     let ruling = get_ruling(s, &mut held, &mut struck)?;
-    let used = cells_of(ruling.trainees, ruling.ending);
+    let used = placed_or(0, ruling.trainees, ruling.ending);
     copy(table, &held, used as usize);
     copy(cells, &struck, 4 * ruling.strikes as usize);
     Ok(ruling)
