@@ -12,6 +12,7 @@ use Rattle.meaning.specs.declared.Ruling.{Ruling}
 use Rattle.fields.specs.Reader.{Step, got, refusal}
 use Rattle.fields.specs.declared.Wrong.{Wrong}
 use Rattle.fields.specs.declared.Misread.{Misread}
+use Rattle.ruling_text.specs.declared.sizes.Sizes.{Sizes}
 use Rattle.ruling_text.specs.Reader.{Pair, Head, Read, taken, refused, read_ruling}
 use Rattle.ruling_text.specs.Cells.{joined, strike_cells, table_cells}
 
@@ -36,8 +37,14 @@ reason_numbers r = reason_number r ∷ reason_witness r ∷ []
 abbrev pub cell_numbers : ℕ → List ℕ
 cell_numbers j = j ∷ []
 
-abbrev pub head_numbers : Head → List ℕ
-head_numbers h = h.n ∷ h.s ∷ []
+-- ---- the first line
+
+abbrev pub head_of_sizes : Sizes → Head
+head_of_sizes z = record { n = z.trainees; s = z.strikes }
+
+abbrev pub HeadRead : Step Head → List ℕ → Result Sizes Wrong → Type 0
+HeadRead step r (Ok z) = step ≡ got (head_of_sizes z) r
+HeadRead step r (Err x) = step ≡ refusal (fault_number x.fault) 0 x.field
 
 -- ---- lines
 
