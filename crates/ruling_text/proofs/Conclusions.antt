@@ -140,10 +140,6 @@ lines-ending (legal_held h g) = refl
 lines-ending (legal_room h g) = refl
 
 module _ (n c : ℕ) (q : List ℕ) where
-  pub conclusion-no-outcome : {e l k : ℕ} → outcome n c q ≡ refusal e l k → conclusion n c q ≡ refusal e l k
-  unfolding conclusion
-  conclusion-no-outcome h = rw h
-
   module _ {t t' r : List ℕ} {ending : Ending} (C : Concluded (outcome n c q) t t' ending r) {v : ℕ} (m : v ≡ ending_lines n ending) where
     end_line : c + lines_of C.it + 2 ≡ c + v + 2
     end_line =

@@ -1,9 +1,9 @@
 -- The whole text: one law for each way that reading it can go.
 -- Assumes nothing.
 use Prim.Native.Nat.{ℕ, ◌≤◌, ◌<◌}
-use mathlib.Core.Path.{◌≡◌, refl, ap, ◌∙◌}
+use mathlib.Core.Path.{◌≡◌, ap, ◌∙◌}
 use mathlib.Core.List.{List, []}
-use lib.ListN.{length, get_or}
+use lib.ListN.{length}
 use borrow.Author.Tests.{le-leb, lt-leb}
 use Rattle.meaning.specs.Answers.{strike_numbers}
 use Rattle.meaning.specs.Solver.{head_of}
@@ -11,28 +11,20 @@ use Rattle.std.specs.Prelude.{Result, Ok, Err}
 use Rattle.meaning.specs.declared.Ending.{Ending}
 use Rattle.meaning.specs.declared.Ruling.{Ruling}
 use Rattle.fields.specs.declared.Misread.{Misread}
-use Rattle.fields.specs.Reader.{refusal, lines}
+use Rattle.ruling_text.specs.declared.sizes.Sizes.{Sizes}
+use Rattle.fields.specs.Reader.{got, refusal, lines}
 use Rattle.fields.proofs.Lines.{lines-back}
-use Rattle.rulings.specs.Legal.{STRIKES, LegalStrike}
+use Rattle.rulings.specs.Legal.{LegalStrike}
 use Rattle.ruling_text.specs.Writer.{write_strike}
 use Rattle.ruling_text.specs.Reader.{strike_line, weightless, conclusion, head_fields, body, ruling, refused, answer, read_ruling}
 use Rattle.ruling_text.specs.Cells.{strike_cells}
-use Rattle.ruling_text.specs.Code.{Numbered, head_numbers, Filled, Concluded, BodyTaken, BodyRead, TextRead}
+use Rattle.ruling_text.specs.Code.{head_of_sizes, Filled, Concluded, BodyTaken, BodyRead, TextRead}
 use Rattle.ruling_text.proofs.Strikes.{strike-back}
-use Rattle.ruling_text.proofs.Round.{head-back}
 
 -- ---- all that follows the first line
 
 module _ (n c : ℕ) (q : List ℕ) where
-  pub body-no-strikes : {e l k : ℕ} → lines (strike_line n) weightless c 1 0 [] q ≡ refusal e l k → body (record { n = n; s = c }) q ≡ refusal e l k
-  unfolding body
-  body-no-strikes h = rw h
-
   module _ {cells cells' r : List ℕ} (F : Filled strike_numbers (lines (strike_line n) weightless c 1 0 [] q) cells cells' r) where
-    pub body-no-end : {e l k : ℕ} → conclusion n c r ≡ refusal e l k → body (record { n = n; s = c }) q ≡ refusal e l k
-    unfolding body
-    body-no-end h = rw (F.goes, h)
-
     as_many : length F.them ≡ c
     as_many =
         let b = lines-back (strike_line n) weightless write_strike (LegalStrike n) 0 (strike-back n) c 1 0 [] q F.them r F.goes in
@@ -67,20 +59,9 @@ module _ (s : List ℕ) (short : length s ≤ 65536) where
   unfolding ruling answer
   text-no-head h = answered ∙ rw h
 
-  -- the first line says two numbers, and r is left
-  module _ {v r : List ℕ} (H : Numbered head_numbers (head_fields s) v r) where
-    head-said : H.it ≡ record { n = get_or v 0 0; s = get_or v 1 0 }
-    head-said = rw (← H.said) refl
-
-    pub head-n : get_or v 0 0 ≤ 256
-    head-n = rw (ap (λ h. h.n) head-said) at (head-back s H.goes).n
-
-    pub head_few : get_or v 1 0 ≤ STRIKES
-    head_few = rw (ap (λ h. h.s) head-said) at (head-back s H.goes).few
-
-    pub text-read : (x : Result Ruling Misread) (table table' cells cells' : List ℕ) → BodyRead (body (record { n = get_or v 0 0; s = get_or v 1 0 }) r) table table' cells cells' x
-        → TextRead s table table' cells cells' x
-    unfolding ruling answer
-    text-read (Ok head) table table' cells cells' B =
-        record { it = B.it; goes = answered ∙ rw H.goes (ap (λ h. answer (body h r)) head-said ∙ ap answer B.goes); laid = B.laid }
-    text-read (Err x) table table' cells cells' B = answered ∙ rw H.goes (ap (λ h. answer (body h r)) head-said ∙ ap answer B)
+  -- the first line says the sizes z, and r is left
+  pub text-read : (z : Sizes) {r : List ℕ} → head_fields s ≡ got (head_of_sizes z) r → (x : Result Ruling Misread) (table table' cells cells' : List ℕ)
+      → BodyRead (body (head_of_sizes z) r) table table' cells cells' x → TextRead s table table' cells cells' x
+  unfolding ruling answer
+  text-read z h (Ok head) table table' cells cells' B = record { it = B.it; goes = answered ∙ rw h (ap answer B.goes); laid = B.laid }
+  text-read z h (Err x) table table' cells cells' B = answered ∙ rw h (ap answer B)

@@ -12,6 +12,7 @@ use Rattle.meaning.specs.declared.Ruling.{Ruling}
 use Rattle.fields.specs.Reader.{Step, got, refusal}
 use Rattle.fields.specs.declared.Wrong.{Wrong}
 use Rattle.fields.specs.declared.Misread.{Misread}
+use Rattle.ruling_text.specs.declared.sizes.Sizes.{Sizes}
 use Rattle.ruling_text.specs.Reader.{Pair, Head, Read, taken, refused, read_ruling}
 use Rattle.ruling_text.specs.Cells.{joined, strike_cells, table_cells}
 
@@ -36,8 +37,14 @@ reason_numbers r = reason_number r ∷ reason_witness r ∷ []
 abbrev pub cell_numbers : ℕ → List ℕ
 cell_numbers j = j ∷ []
 
-abbrev pub head_numbers : Head → List ℕ
-head_numbers h = h.n ∷ h.s ∷ []
+-- ---- the first line
+
+abbrev pub head_of_sizes : Sizes → Head
+head_of_sizes z = record { n = z.trainees; s = z.strikes }
+
+abbrev pub HeadRead : Step Head → List ℕ → Result Sizes Wrong → Type 0
+HeadRead step r (Ok z) = step ≡ got (head_of_sizes z) r
+HeadRead step r (Err x) = step ≡ refusal (fault_number x.fault) 0 x.field
 
 -- ---- lines
 
@@ -69,11 +76,15 @@ abbrev pub ConclusionRead : Step Outcome → List ℕ → List ℕ → List ℕ 
 ConclusionRead step t t' r (Ok ending) = Concluded step t t' ending r
 ConclusionRead step t t' r (Err x) = step ≡ refusal (fault_number x.fault) x.line x.field
 
--- how many lines an outcome with this ending has
+-- a number of an outcome with this ending: n where there is a table
+abbrev pub placed_or : ℕ → ℕ → Ending → ℕ
+placed_or none n Placed = n
+placed_or none n (NoneHeld i j) = none
+placed_or none n (NoneRoom i j) = none
+
+-- how many lines it has
 abbrev pub ending_lines : ℕ → Ending → ℕ
-ending_lines n Placed = n
-ending_lines n (NoneHeld i j) = 1
-ending_lines n (NoneRoom i j) = 1
+ending_lines n ending = placed_or 1 n ending
 
 -- ---- the whole text
 
@@ -103,9 +114,7 @@ TextRead s table table' cells cells' (Err x) = read_ruling s ≡ refused (fault_
 
 -- how many cells of the table an outcome of n trainees with this ending uses
 abbrev pub ending_cells : ℕ → Ending → ℕ
-ending_cells n Placed = n
-ending_cells n (NoneHeld i j) = 0
-ending_cells n (NoneRoom i j) = 0
+ending_cells n ending = placed_or 0 n ending
 
 -- a refusal's number, line and field
 pub record Refused : Type 0 where

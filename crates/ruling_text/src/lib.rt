@@ -11,13 +11,17 @@ ghost use Rattle.rulings.specs.Legal.{LegalOutcome};
 ghost use Rattle.meaning.specs.Answers.{strike_numbers};
 ghost use Rattle.meaning.specs.Solver.{ending_of};
 ghost use Rattle.ruling_text.specs.Reader.{pair, low_witness, high_witness, reason, strike_fields, strike_line, cell_fields, cell_line, weightless, none_of, none_fields, outcome, end_fields, finish, conclusion, body, sizes, head_fields, read_ruling};
-ghost use Rattle.ruling_text.specs.Code.{pair_numbers, reason_numbers, cell_numbers, head_numbers, NumbersRead, RowsRead, NoneRead, ConclusionRead, ending_lines, BodyRead, TextRead, ending_cells, answered, answered_by};
+ghost use Rattle.ruling_text.specs.Code.{pair_numbers, reason_numbers, cell_numbers, head_of_sizes, NumbersRead, HeadRead, RowsRead, NoneRead, ConclusionRead, placed_or, BodyRead, TextRead, answered, answered_by};
 ghost use Rattle.ruling_text.specs.Writer.{write_strike, write_cell, write_outcome, ruling_text};
 ghost use Rattle.ruling_text.specs.Cells.{strike_cells, strikes_in, outcome_in, ruling_in, Held};
 
 use fields::pen::Pen;
 use fields::{Cursor, Misread, Wrong};
 use meaning::{Ending, Fault, Ruling};
+
+pub mod sizes;
+
+pub use sizes::Sizes;
 
 // A trainee of 1 to n in the field k, and a depot in the next.
 #[tactic(auto, unfolding(crate::specs::Reader::pair))]
@@ -86,25 +90,26 @@ fn cell_at(text: &mut Cursor, i: u16) -> Result<u16, Wrong>
     Ok(depot)
 }
 
-// The lines of `count` strikes, into the front of `cells`; strike 1 stands on line 2.
-fn strikes_at(text: &mut Cursor, n: u16, count: usize, cells: &mut [u16]) -> Result<(), Misread>
-    requires { (count ≤ 4096) × (4 * count ≤ length cells.old) }
-    ensures { RowsRead strike_numbers (lines (strike_line n) weightless count 1 0 [] text.old.rest.now) cells.old cells.new text.new.rest.now result }
+// The lines of the strikes, into the front of `cells`; strike 1 stands on line 2.
+fn strikes_at(text: &mut Cursor, sizes: Sizes, cells: &mut [u16]) -> Result<(), Misread>
+    requires { 4 * sizes.strikes ≤ length cells.old }
+    ensures { RowsRead strike_numbers (lines (strike_line sizes.trainees) weightless sizes.strikes 1 0 [] text.old.rest.now) cells.old cells.new text.new.rest.now result }
 {
-    for c in 0..count {
-        let strike = strike_at(text, n).map_err(|x| x.on(c + 2))?;
+    for c in 0..sizes.strikes as usize {
+        let strike = strike_at(text, sizes.trainees).map_err(|x| x.on(c + 2))?;
         let at = 4 * c;
         cells[at..at + 4].copy_from_slice(&strike);
     }
     Ok(())
 }
 
-// The lines of n trainees after `count` strikes, into the front of `table`.
-fn table_at(text: &mut Cursor, n: usize, count: usize, table: &mut [u16]) -> Result<(), Misread>
-    requires { (n ≤ 256) × (count ≤ 4096) × (n ≤ length table.old) }
-    ensures { RowsRead cell_numbers (lines (cell_line count) weightless n 1 0 [] text.old.rest.now) table.old table.new text.new.rest.now result }
+// The lines of the trainees after the strikes, into the front of `table`.
+fn table_at(text: &mut Cursor, sizes: Sizes, table: &mut [u16]) -> Result<(), Misread>
+    requires { sizes.trainees ≤ length table.old }
+    ensures { RowsRead cell_numbers (lines (cell_line sizes.strikes) weightless sizes.trainees 1 0 [] text.old.rest.now) table.old table.new text.new.rest.now result }
 {
-    for c in 0..n {
+    let count = sizes.strikes as usize;
+    for c in 0..sizes.trainees as usize {
         let depot = cell_at(text, (c + 1) as u16).map_err(|x| x.on(count + c + 2))?;
         table[c] = depot;
     }
@@ -134,27 +139,18 @@ fn none_at(text: &mut Cursor, n: u16) -> Result<Ending, Wrong>
     Ok(none_of(kind, i, j))
 }
 
-// The table, or why there is none, after `count` strikes.
-fn outcome_at(text: &mut Cursor, n: u16, count: usize, table: &mut [u16]) -> Result<Ending, Misread>
-    requires { (n ≤ 256) × (count ≤ 4096) × (n ≤ length table.old) }
-    ensures { ConclusionRead (outcome n count text.old.rest.now) table.old table.new text.new.rest.now result }
+// The table, or why there is none, after the strikes.
+fn outcome_at(text: &mut Cursor, sizes: Sizes, table: &mut [u16]) -> Result<Ending, Misread>
+    requires { sizes.trainees ≤ length table.old }
+    ensures { ConclusionRead (outcome sizes.trainees sizes.strikes text.old.rest.now) table.old table.new text.new.rest.now result }
 {
+    let count = sizes.strikes as usize;
     match text.keyword(b"N") {
-        Ok(()) => none_at(text, n).map_err(|x| x.on(count + 2)),
+        Ok(()) => none_at(text, sizes.trainees).map_err(|x| x.on(count + 2)),
         Err(_) => {
-            table_at(text, n as usize, count, table)?;
+            table_at(text, sizes, table)?;
             Ok(Ending::Placed)
         }
-    }
-}
-
-// How many lines an outcome of n trainees with this ending has.
-fn lines_of(n: u16, ending: Ending) -> u16
-    ensures { result ≡ ending_lines n ending }
-{
-    match ending {
-        Ending::Placed => n,
-        Ending::NoneHeld(_, _) | Ending::NoneRoom(_, _) => 1,
     }
 }
 
@@ -183,14 +179,24 @@ fn finish_at(text: &mut Cursor, l: usize) -> Result<(), Misread>
     Ok(())
 }
 
-// All that follows `count` strikes.
-#[tactic(auto, unfolding(crate::specs::Reader::conclusion))]
-fn end_at(text: &mut Cursor, n: u16, count: u16, table: &mut [u16]) -> Result<Ending, Misread>
-    requires { (n ≤ 256) × (count ≤ 4096) × (n ≤ length table.old) }
-    ensures { ConclusionRead (conclusion n count text.old.rest.now) table.old table.new [] result }
+// The n of a table, or another number where there is none: an outcome has a line for each trainee or one line, and a cell for each or none.
+fn placed_or(none: u16, n: u16, ending: Ending) -> u16
+    ensures { result ≡ placed_or none n ending }
 {
-    let ending = outcome_at(text, n, count as usize, table)?;
-    let l = count + lines_of(n, ending) + 2;
+    match ending {
+        Ending::Placed => n,
+        Ending::NoneHeld(_, _) | Ending::NoneRoom(_, _) => none,
+    }
+}
+
+// All that follows the strikes.
+#[tactic(auto, unfolding(crate::specs::Reader::conclusion))]
+fn end_at(text: &mut Cursor, sizes: Sizes, table: &mut [u16]) -> Result<Ending, Misread>
+    requires { sizes.trainees ≤ length table.old }
+    ensures { ConclusionRead (conclusion sizes.trainees sizes.strikes text.old.rest.now) table.old table.new [] result }
+{
+    let ending = outcome_at(text, sizes, table)?;
+    let l = sizes.strikes + placed_or(1, sizes.trainees, ending) + 2;
     finish_at(text, l as usize)?;
     Ok(ending)
 }
@@ -199,38 +205,37 @@ fn end_at(text: &mut Cursor, n: u16, count: u16, table: &mut [u16]) -> Result<En
 #[tactic(auto, unfolding(crate::specs::Reader::body))]
 fn body_at(
     text: &mut Cursor,
-    n: u16,
-    count: u16,
+    sizes: Sizes,
     table: &mut [u16],
     cells: &mut [u16],
 ) -> Result<Ruling, Misread>
-    requires { (n ≤ 256) × (count ≤ 4096) × (n ≤ length table.old) × (4 * count ≤ length cells.old) }
-    ensures { BodyRead (body (record { n = n; s = count }) text.old.rest.now) table.old table.new cells.old cells.new result }
+    requires { (sizes.trainees ≤ length table.old) × (4 * sizes.strikes ≤ length cells.old) }
+    ensures { BodyRead (body (head_of_sizes sizes) text.old.rest.now) table.old table.new cells.old cells.new result }
 {
-    strikes_at(text, n, count as usize, cells)?;
-    let ending = end_at(text, n, count, table)?;
+    strikes_at(text, sizes, cells)?;
+    let ending = end_at(text, sizes, table)?;
     Ok(Ruling {
-        trainees: n,
-        strikes: count,
+        trainees: sizes.trainees,
+        strikes: sizes.strikes,
         ending,
     })
 }
 
 // The number of trainees and the number of strikes, in the fields 3 and 4 of the first line, and the line's end.
 #[tactic(auto, unfolding(crate::specs::Reader::sizes))]
-fn sizes_at(text: &mut Cursor) -> Result<[u16; 2], Wrong>
-    ensures { NumbersRead head_numbers (sizes text.old.rest.now) text.new.rest.now result }
+fn sizes_at(text: &mut Cursor) -> Result<Sizes, Wrong>
+    ensures { HeadRead (sizes text.old.rest.now) text.new.rest.now result }
 {
     let trainees = text.number(3, 0, 256)?;
     let strikes = text.number(4, 0, 4096)?;
     text.line_end(5)?;
-    Ok([trainees, strikes])
+    Ok(Sizes { trainees, strikes })
 }
 
 // The first line.
 #[tactic(auto, unfolding(crate::specs::Reader::head_fields))]
-fn head_at(text: &mut Cursor) -> Result<[u16; 2], Wrong>
-    ensures { NumbersRead head_numbers (head_fields text.old.rest.now) text.new.rest.now result }
+fn head_at(text: &mut Cursor) -> Result<Sizes, Wrong>
+    ensures { HeadRead (head_fields text.old.rest.now) text.new.rest.now result }
 {
     text.keyword(b"ruling")?;
     text.running(2, 1)?;
@@ -250,8 +255,8 @@ pub fn get_ruling(s: &[u8], table: &mut [u16], cells: &mut [u16]) -> Result<Ruli
         });
     }
     let mut text = Cursor { rest: s };
-    let [n, count] = head_at(&mut text).map_err(|x| x.on(1))?;
-    body_at(&mut text, n, count, table, cells)
+    let sizes = head_at(&mut text).map_err(|x| x.on(1))?;
+    body_at(&mut text, sizes, table, cells)
 }
 
 // The first n cells of `from` into `to`.
@@ -262,16 +267,6 @@ fn copy(to: &mut [u16], from: &[u16], n: usize)
     to[..n].copy_from_slice(&from[..n]);
 }
 
-// How many cells of the table an outcome of n trainees with this ending uses.
-fn cells_of(n: u16, ending: Ending) -> u16
-    ensures { result ≡ ending_cells n ending }
-{
-    match ending {
-        Ending::Placed => n,
-        Ending::NoneHeld(_, _) | Ending::NoneRoom(_, _) => 0,
-    }
-}
-
 // A ruling text, into the fronts of the lent tables; a refusal changes no cell.
 pub fn read_cells(s: &[u8], table: &mut [u16], cells: &mut [u16]) -> Result<Ruling, Misread>
     requires { (256 ≤ length table.old) × (16384 ≤ length cells.old) }
@@ -280,7 +275,7 @@ pub fn read_cells(s: &[u8], table: &mut [u16], cells: &mut [u16]) -> Result<Ruli
     let mut held = [0u16; 256];
     let mut struck = [0u16; 16384];
     let ruling = get_ruling(s, &mut held, &mut struck)?;
-    let used = cells_of(ruling.trainees, ruling.ending);
+    let used = placed_or(0, ruling.trainees, ruling.ending);
     copy(table, &held, used as usize);
     copy(cells, &struck, 4 * ruling.strikes as usize);
     Ok(ruling)

@@ -6,7 +6,7 @@ use Rattle.ruling_text.proofs.end_at.Goals as goal
 pub returns-in_err-finish_at : goal.returns-in_err-finish_at
 returns-in_err-finish_at c =
     let p = err_from_is_err_and c.from_residual-in_err-finish_at.result c.from_residual-in_err-finish_at.ensures.1 in
-    rw (p.1, p.2) (conclusion-no-end c.args.n c.args.count _ c.in_ok-ending.ensures c.lines_of.ensures c.in_err-finish_at.ensures)
+    rw (p.1, p.2) (conclusion-no-end c.args.sizes.trainees c.args.sizes.strikes _ c.in_ok-ending.ensures c.placed_or.ensures c.in_err-finish_at.ensures)
 
 pub returns : goal.returns
-returns c = conclusion-ends c.args.n c.args.count _ c.in_ok-ending.ensures c.lines_of.ensures c.in_ok-finish_at.ensures
+returns c = conclusion-ends c.args.sizes.trainees c.args.sizes.strikes _ c.in_ok-ending.ensures c.placed_or.ensures c.in_ok-finish_at.ensures

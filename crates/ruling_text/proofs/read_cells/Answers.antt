@@ -13,7 +13,7 @@ returns-in_err-ruling c =
 pub copy-requires : goal.copy-requires
 copy-requires c =
     let T = c.in_ok-ruling.ensures in
-    omega (arith, c.cells_of-used.ensures, taken-cells T, table-few T, c.requires, c.get_ruling.auto.table)
+    omega (arith, c.placed_or-used.ensures, taken-cells T, table-few T, c.requires, c.get_ruling.auto.table)
 
 pub copy-requires-2 : goal.copy-requires-2
 copy-requires-2 c =
@@ -23,4 +23,4 @@ copy-requires-2 c =
 pub returns : goal.returns
 returns c =
     let a = c.args in
-    answer-taken c.in_ok-ruling.ensures a.table.now a.cells.now c.cells_of-used.ensures (omega arith) (omega arith) c.copy.ensures c.copy-2.ensures
+    answer-taken c.in_ok-ruling.ensures a.table.now a.cells.now c.placed_or-used.ensures (omega arith) (omega arith) c.copy.ensures c.copy-2.ensures

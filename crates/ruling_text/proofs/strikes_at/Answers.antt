@@ -14,7 +14,7 @@ use Rattle.ruling_text.proofs.Turns.{turn-start, turn-refused, turn_on, turn-don
 use Rattle.ruling_text.proofs.strikes_at.Goals as goal
 
 pub loop-c-init : goal.loop-c-init
-loop-c-init c = turn-start (strike_line c.args.n) strike_numbers 4 c.args.text.now.rest.now c.args.count c.args.cells.now
+loop-c-init c = turn-start (strike_line c.args.sizes.trainees) strike_numbers 4 c.args.text.now.rest.now c.args.sizes.strikes c.args.cells.now
 
 pub returns-in_err-strike : goal.returns-in_err-strike
 returns-in_err-strike c =
@@ -22,7 +22,7 @@ returns-in_err-strike c =
     let p = err_from_is_err_and c.from_residual.result c.from_residual.ensures.1 in
     let t = lined (l.c-counter + 2) (NumbersRead strike_numbers _ _) c.in_err-strike.ensures.cases (λ w h. search rules) c.strike_at.ensures (λ w h. h) in
     rw (p.1, p.2, ← t.on)
-    (turn-refused (strike_line c.args.n) strike_numbers 4 l.invariant (omega arith) (strike-line-refused c.args.n l.c-counter l.invariant.total _ t.refused))
+    (turn-refused (strike_line c.args.sizes.trainees) strike_numbers 4 l.invariant (omega arith) (strike-line-refused c.args.sizes.trainees l.c-counter l.invariant.total _ t.refused))
 
 pub loop-c-preserved : goal.loop-c-preserved
 unfolding strike_numbers
@@ -31,7 +31,7 @@ loop-c-preserved c =
     let n = passed (NumbersRead strike_numbers _ _) c.in_ok-strike.ensures.cases (λ w h. h) c.strike_at.ensures in
     let four = sym (ap length n.said) in
     let P = put_copied l.cells c.in_ok-strike.strike (4 * l.c-counter) (4 * l.c-counter + 4 - 4 * l.c-counter) c.copy_from_slice.ensures.after (omega arith) (omega (arith, l.invariant.size)) in
-    turn_on (strike_line c.args.n) strike_numbers 4 l.invariant n.it (omega arith) (strike-line-got c.args.n l.c-counter l.invariant.total _ n.goes) n.said four P.cells
+    turn_on (strike_line c.args.sizes.trainees) strike_numbers 4 l.invariant n.it (omega arith) (strike-line-got c.args.sizes.trainees l.c-counter l.invariant.total _ n.goes) n.said four P.cells
 
 pub returns : goal.returns
-returns c = turn-done (strike_line c.args.n) strike_numbers 4 c.loop-c.invariant (omega arith)
+returns c = turn-done (strike_line c.args.sizes.trainees) strike_numbers 4 c.loop-c.invariant (omega arith)

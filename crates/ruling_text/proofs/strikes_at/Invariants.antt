@@ -5,4 +5,4 @@ use Rattle.ruling_text.proofs.Turns.{Turn}
 use Rattle.ruling_text.proofs.strikes_at.Given as goal
 
 abbrev pub invariant-loop-c : goal.invariant-loop-c
-invariant-loop-c l = Turn (strike_line l.n) strike_numbers 4 l.initial.text.rest.now l.count l.initial.cells l.cells l.c-counter l.text.rest.now
+invariant-loop-c l = Turn (strike_line l.sizes.trainees) strike_numbers 4 l.initial.text.rest.now l.sizes.strikes l.initial.cells l.cells l.c-counter l.text.rest.now
