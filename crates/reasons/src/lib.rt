@@ -1,13 +1,12 @@
 // Which reason fits a pair now, read off the tables and the rows of struck places.
 #![tactic(auto)]
 
-ghost use Rattle.std.specs.Prelude.{◌≡◌, true, false, not, ℕ, ◌+◌, ◌-◌, ◌*◌, ◌≤◌, ◌<◌, length, get_or, leb, ltb, eqb};
+ghost use Rattle.std.specs.Prelude.{◌≡◌, true, false, not, ℕ, ◌+◌, ◌-◌, ◌≤◌, ◌<◌, length, get_or, leb, ltb, eqb};
 ghost use Rattle.std.proofs.Math.Option.{none};
 ghost use Rattle.meaning.specs.Numbers.{In, bit};
 ghost use Rattle.meaning.specs.Lists.{place};
 ghost use Rattle.meaning.specs.Solver.{lowest};
 ghost use Rattle.ranks.specs.View.{n_of, m_of, ranking_of, posts_of, FullTables, Names};
-ghost use Rattle.ranks.specs.View.{wishes_of};
 ghost use Rattle.reasons.specs.Rows.{OrderRows, start_row};
 ghost use Rattle.reasons.specs.Orders.{FullOrders, Noted, mark_for, trainee_in, depot_in};
 ghost use Rattle.tables.specs.Cells.{order_start};
@@ -16,6 +15,7 @@ ghost use Rattle.reasons.specs.Reasons.{settled, settled_by, above_of, number_or
 ghost use Rattle.reasons.specs.Answers.{choice_of};
 
 use meaning::Reason;
+use tables::Kind;
 
 // The reason found, or none.
 #[derive(Clone, Copy)]
@@ -220,7 +220,7 @@ fn note_order(
     let at = tables::order_at(k);
     let i = tables::order_trainee(orders, at);
     let j = tables::order_depot(orders, at);
-    if tables::order_kind(orders, at) == 0 {
+    if tables::order_kind(orders, at) == Some(Kind::Held) {
         mark_pair(holds, i, j);
     } else {
         mark_pair(bars, i, j);

@@ -1,7 +1,7 @@
 // The solver: sweeps over rows and cells, until one strikes nothing.
 #![tactic(auto)]
 
-ghost use Rattle.std.specs.Prelude.{◌≡◌, [], ℕ, suc, ◌+◌, ◌*◌, ◌≤◌, ◌<◌, length, get_or};
+ghost use Rattle.std.specs.Prelude.{◌≡◌, [], suc, ◌+◌, ◌≤◌, ◌<◌, length, get_or};
 ghost use Rattle.meaning.specs.Numbers.{In};
 ghost use Rattle.meaning.specs.Strikes.{mutual_pairs};
 ghost use Rattle.meaning.specs.Solver.{row_by, rows_by, sweeps_by};
@@ -25,6 +25,7 @@ ghost use Rattle.solver.specs.Ends.{struck_in, left_in, broken_in, broken_pair, 
 
 use meaning::{Ending, Refusal, Ruled, Ruling, Strike};
 use reasons::Choice;
+use tables::Kind;
 
 // Visits place p of i's list: strikes the pair there if a reason fits. The number of strikes now.
 fn visit_place(
@@ -169,7 +170,7 @@ fn breaks(heads: &[u16], entries: &[u16], orders: &[u16], rows: &[u64], k: usize
     ensures { result ≡ broken? (market_of heads.now entries.now) (struck_in heads.now entries.now rows.now) (order_in orders.now k) }
 {
     let at = tables::order_at(k);
-    if tables::order_kind(orders, at) != 0 {
+    if tables::order_kind(orders, at) != Some(Kind::Held) {
         return false;
     }
     let i = tables::order_trainee(orders, at);
