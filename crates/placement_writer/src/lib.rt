@@ -18,6 +18,7 @@ ghost use Rattle.placement_writer.specs.Writing.{writes, writing_of};
 
 use fields::pen::Pen;
 use meaning::{Fault, Refusal};
+use tables::Kind;
 
 // A number, or `?` where none was received.
 fn put_received(v: Option<usize>, pen: &mut Pen)
@@ -69,12 +70,11 @@ fn put_depot(heads: &[u16], entries: &[u16], cells: usize, j: usize, pen: &mut P
     pen.byte(b'\n');
 }
 
-// The word of a pair: 0 is held, and 1 barred.
-#[tactic(auto, unfolding(placement_text::specs::Words::letter, crate::specs::Held::kind_in))]
-fn kind_word(kind: usize) -> &'static [u8]
-    ensures { result.now ≡ letter (kind_in kind) }
+// The word of an order of a kind.
+fn kind_word(kind: Option<Kind>) -> &'static [u8]
+    ensures { result.now ≡ letter (kind_given kind) }
 {
-    if kind == 0 { b"F" } else { b"X" }
+    if kind == Some(Kind::Held) { b"F" } else { b"X" }
 }
 
 // The line of the pair whose cells stand at `cells`.

@@ -1,7 +1,7 @@
 // The solver: sweeps over rows and cells, until one strikes nothing.
 #![tactic(auto)]
 
-ghost use Rattle.std.specs.Prelude.{◌≡◌, [], ℕ, suc, ◌+◌, ◌*◌, ◌≤◌, ◌<◌, length, get_or};
+ghost use Rattle.std.specs.Prelude.{◌≡◌, [], suc, ◌+◌, ◌≤◌, ◌<◌, length, get_or};
 ghost use Rattle.meaning.specs.Numbers.{In};
 ghost use Rattle.meaning.specs.Strikes.{mutual_pairs};
 ghost use Rattle.meaning.specs.Solver.{row_by, rows_by, sweeps_by};

@@ -9,9 +9,36 @@ ghost use Rattle.meaning.specs.Placement.{size};
 ghost use Rattle.tables.specs.Cells.{CellGives, trainee_start, depot_start, order_start, part, HeadRoom};
 ghost use Rattle.tables.specs.Decode.{within, good_entries, posts_from, trainee_from, order_from, orders_from, series_from, limits, Sides, lists_from, sides_of, few_orders_of, placement_of};
 ghost use Rattle.tables.specs.Answers.{sized, full_sides, LineOf, said_by, receipt_of, trainee_list, trainee_receipt};
+ghost use Rattle.tables.specs.Kinds.{Stands, KindGives};
 ghost use Rattle.tables.specs.Walk.{is_some, end_of, Ends, all_posts, trainee_missing, depot_missing};
 
 use meaning::{Fault, Receipt, Refusal};
+
+// What an order says of its pair.
+#[derive(Clone, Copy, PartialEq, Eq)]
+pub enum Kind {
+    Held,
+    Barred,
+}
+
+// A cell that stands for no kind.
+#[derive(Clone, Copy, PartialEq, Eq)]
+pub struct UnknownKind(pub u16);
+
+impl TryFrom<u16> for Kind {
+    type Error = UnknownKind;
+
+    ghost try_from_gives = { Stands };
+
+    // The kind that a cell stands for.
+    fn try_from(cell: u16) -> Result<Self, UnknownKind> {
+        match cell {
+            0 => Ok(Kind::Held),
+            1 => Ok(Kind::Barred),
+            _ => Err(UnknownKind(cell)),
+        }
+    }
+}
 
 // The cell of a length or of posts not received.
 const NOT_RECEIVED: usize = 65535;
@@ -121,12 +148,12 @@ pub fn order_at(k: usize) -> usize
     3 * k + 1
 }
 
-// The kind of the order whose cells stand at `at`: 0 held, 1 barred.
-pub fn order_kind(orders: &[u16], at: usize) -> usize
+// The kind of the order whose cells stand at `at`; none where the cell stands for no kind.
+pub fn order_kind(orders: &[u16], at: usize) -> Option<Kind>
     requires { at < length orders.now }
-    ensures { result ≡ get_or orders.now at 0 }
+    ensures { KindGives (get_or orders.now at 0) result }
 {
-    cell(orders, at)
+    Kind::try_from(orders[at]).ok()
 }
 
 // The trainee of the order whose cells stand at `at`.
@@ -278,7 +305,7 @@ fn order_ok(orders: &[u16], at: usize, n: usize, m: usize) -> bool
     requires { at + 2 < length orders.now }
     ensures { result ≡ is_some (order_from n m 0 (drop at orders.now) []) }
 {
-    order_kind(orders, at) <= 1
+    order_kind(orders, at).is_some()
         && in_range(order_trainee(orders, at), n)
         && in_range(order_depot(orders, at), m)
 }
