@@ -105,6 +105,18 @@ number-again (suc (suc (suc (suc (suc (suc (suc zero))))))) lo hi = refl
 number-again (suc (suc (suc (suc (suc (suc (suc (suc zero)))))))) lo hi = refl
 number-again (suc (suc (suc (suc (suc (suc (suc (suc (suc k))))))))) lo hi = absurd (omega arith)
 
+-- and from 3 on no fault's number is below 3
+pub number-high : (k : ℕ) → 3 ≤ k → 3 ≤ fault_number (fault_of k)
+number-high zero h = absurd (omega arith)
+number-high (suc zero) h = absurd (omega arith)
+number-high (suc (suc zero)) h = absurd (omega arith)
+number-high (suc (suc (suc zero))) h = omega arith
+number-high (suc (suc (suc (suc zero)))) h = omega arith
+number-high (suc (suc (suc (suc (suc zero))))) h = omega arith
+number-high (suc (suc (suc (suc (suc (suc zero)))))) h = omega arith
+number-high (suc (suc (suc (suc (suc (suc (suc zero))))))) h = omega arith
+number-high (suc (suc (suc (suc (suc (suc (suc (suc k)))))))) h = omega arith
+
 pub refusal-again : (r : Refusal) → refusal (fault_number r.fault) r.line ≡ r
 refusal-again r = ap (λ f. record { fault = f; line = r.line }) (fault-again r.fault)
 

@@ -14,7 +14,7 @@ use Rattle.meaning.specs.Numbers.{◌&◌}
 use Rattle.meaning.proofs.Numbers.{order}
 use Rattle.fields.specs.Reader.{Step, got, refusal as refusal-at}
 use Rattle.meaning.specs.Answers.{SHORT_PART, LONG_TEXT, fault_number, fault_of, refusal}
-use Rattle.meaning.proofs.Answers.{number-again}
+use Rattle.meaning.proofs.Answers.{number-high}
 use Rattle.meaning.specs.Placement.{Placement, Legal}
 use Rattle.meaning.specs.declared.Refusal.{Refusal}
 use Rattle.std.specs.Prelude.{Result, Ok, Err}
@@ -121,7 +121,7 @@ text-number s h e o l = rw (le-leb (length s) 65536 l, read_text) (go (placement
   where
     go : (t : Step Placement) → Range t → (number_given (reading (outcome t) h e o).answer ≡ 0) ⊎ (3 ≤ number_given (reading (outcome t) h e o).answer)
     go (got p r) w = inl refl
-    go (refusal-at x l f) w = inr w.0
+    go (refusal-at x l f) w = inr (number-high x w.0)
 
 long-number : (s : List ℕ) (h e o : List ℕ) → 65536 < length s → number_given (reading (read_text s) h e o).answer ≡ 2
 unfolding reading
@@ -172,6 +172,6 @@ line-law s h e o x l high k = go (true-or-false (sized h e o)) (order (length s)
         subst (AtLine s) z (record { above = legal-above s w d; none-agrees = no-legal-agrees s w d })
 
     go : (sized h e o ≡ true) ⊎ (sized h e o ≡ false) → (length s ≤ 65536) ⊎ (65536 < length s) → AtLine s l
-    go (inr f) w = let z = ap (λ v. number_given v.answer) (answer-short s h e o f) ∙ ap number_given k in absurd (omega arith)
-    go (inl t) (inr w) = let z = sym (read_number s h e o t ∙ long-number s h e o w) ∙ ap number_given k in absurd (omega arith)
+    go (inr f) w = let z = ap (λ v. number_given v.answer) (answer-short s h e o f) ∙ ap number_given k in absurd (omega (arith, number-high x high))
+    go (inl t) (inr w) = let z = sym (read_number s h e o t ∙ long-number s h e o w) ∙ ap number_given k in absurd (omega (arith, number-high x high))
     go (inl t) (inl w) = from w (read_text s) refl (ap (λ v. v.answer) (answer-read s h e o t) ∙ k)

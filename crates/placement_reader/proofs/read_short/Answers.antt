@@ -13,8 +13,8 @@ use Rattle.placement_reader.proofs.Below.{few-lines}
 use Rattle.placement_reader.proofs.Ways.{answer-refused, used_fits, answer-taken}
 use Rattle.placement_reader.proofs.read_short.Goals as goal
 
-pub overflow_cast-result-in-Err : goal.overflow_cast-result-in-Err
-overflow_cast-result-in-Err c = omega (arith, few-lines c.args.text.now c.in-Err.ensures)
+pub overflow_cast-result : goal.overflow_cast-result
+overflow_cast-result c = omega (arith, few-lines c.args.text.now c.in-Err.ensures)
 
 pub slice_bounds-h-end : goal.slice_bounds-h-end
 slice_bounds-h-end c = omega (arith, (used_fits c.in-Ok.ensures).heads)
