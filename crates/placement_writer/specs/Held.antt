@@ -4,6 +4,8 @@ use Rattle.std.specs.Prelude.{Option as Answer, Some, None, ℕ, zero, suc, ◌+
 use Rattle.std.proofs.Math.Option.{Option, none, some}
 use Rattle.meaning.specs.Placement.{Kind, held, barred, Order, Depot, depot}
 use Rattle.tables.specs.Cells.{missing_cell, part}
+use Rattle.tables.specs.declared.Kind.{Kind as Given}
+use Rattle.tables.specs.declared.Kind.TheVariants.{Held, Barred}
 
 -- a length or posts, by the cell
 unfoldable pub number_in : ℕ → Option ℕ
@@ -24,6 +26,12 @@ depot_in h e at = depot (number_in (get_or h (at + 2) 0)) (list_in h e at)
 
 unfoldable pub kind_in : ℕ → Kind
 kind_in v = elim (eqb v 0) [ true ↦ held | false ↦ barred ]
+
+-- the same, by what the cell gave
+abbrev pub kind_given : Answer Given → Kind
+kind_given (Some Held) = held
+kind_given (Some Barred) = barred
+kind_given None = barred
 
 -- the order whose kind, trainee and depot stand at `at`
 unfoldable pub order_in : List ℕ → ℕ → Order

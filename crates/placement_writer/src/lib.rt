@@ -13,7 +13,7 @@ ghost use Rattle.tables.specs.Decode.{placement_of};
 ghost use Rattle.tables.specs.Walk.{is_some};
 ghost use Rattle.placement_text.specs.Words.{letter};
 ghost use Rattle.placement_text.specs.Writer.{write_received, write_list, write_trainee, write_depot, write_order, write_orders, write_head, text_of};
-ghost use Rattle.placement_writer.specs.Held.{received_in, list_in, depot_in, kind_in, order_in, run, ListRoom};
+ghost use Rattle.placement_writer.specs.Held.{number_in, received_in, list_in, depot_in, kind_given, order_in, run, ListRoom};
 ghost use Rattle.placement_writer.specs.Writing.{writes, writing_of};
 
 use fields::pen::Pen;
@@ -56,6 +56,14 @@ fn put_trainee(heads: &[u16], entries: &[u16], i: usize, pen: &mut Pen)
     pen.byte(b'\n');
 }
 
+// The posts of the depot whose cells stand at `cells`, or `?`.
+fn put_posts(heads: &[u16], cells: usize, pen: &mut Pen)
+    requires { (cells + 2 < length heads.now) × Room pen.old (write_received (number_in (get_or heads.now (cells + 2) 0))) }
+    ensures { Wrote pen.old pen.new (write_received (number_in (get_or heads.now (cells + 2) 0))) }
+{
+    put_received(tables::posts_of(heads, cells), pen);
+}
+
 // The line of depot j, whose cells stand at `cells`.
 #[tactic(auto, unfolding(placement_text::specs::Writer::write_depot, crate::specs::Held::depot_in))]
 fn put_depot(heads: &[u16], entries: &[u16], cells: usize, j: usize, pen: &mut Pen)
@@ -64,17 +72,20 @@ fn put_depot(heads: &[u16], entries: &[u16], cells: usize, j: usize, pen: &mut P
 {
     pen.word(b"D");
     pen.number(j as u16);
-    let posts = tables::posts_of(heads, cells);
-    put_received(posts, pen);
+    put_posts(heads, cells, pen);
     put_list(heads, entries, cells, pen);
     pen.byte(b'\n');
 }
 
 // The word of an order of a kind.
+#[tactic(auto, unfolding(placement_text::specs::Words::letter))]
 fn kind_word(kind: Option<Kind>) -> &'static [u8]
     ensures { result.now ≡ letter (kind_given kind) }
 {
-    if kind == Some(Kind::Held) { b"F" } else { b"X" }
+    match kind {
+        Some(Kind::Held) => b"F",
+        Some(Kind::Barred) | None => b"X",
+    }
 }
 
 // The line of the pair whose cells stand at `cells`.

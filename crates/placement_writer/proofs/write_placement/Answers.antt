@@ -5,16 +5,15 @@ use Rattle.tables.proofs.Receipts.{sizes}
 use Rattle.placement_writer.proofs.Held.{held-is}
 use Rattle.placement_writer.proofs.Ways.{answer-short, answer-short-out, answer-unread, answer-written}
 use Rattle.placement_writer.proofs.write_placement.Goals as goal
+use Rattle.placement_writer.proofs.write_placement.Goals.{then-not-sizes_ok-via-then-not-sizes_ok, then-not-sizes_ok-via-else-not-sizes_ok+then-out-lt65536}
 
 pub returns-then-not-sizes_ok : goal.returns-then-not-sizes_ok
 returns-then-not-sizes_ok c =
     let a = c.args in
-    answer-short a.heads.now a.entries.now a.orders.now a.out.now (sym c.sizes_ok.ensures ∙ c.if-not-sizes_ok.true)
-
-pub returns-then-out-lt65536 : goal.returns-then-out-lt65536
-returns-then-out-lt65536 c =
-    let a = c.args in
-    answer-short-out a.heads.now a.entries.now a.orders.now a.out.now (sym c.sizes_ok.ensures ∙ c.if-not-sizes_ok.false) c.if-out-lt65536.true
+    elim c.then-not-sizes_ok.branch [
+      | then-not-sizes_ok-via-then-not-sizes_ok w ↦ answer-short a.heads.now a.entries.now a.orders.now a.out.now (sym c.sizes_ok.ensures ∙ w.if-not-sizes_ok.true)
+      | then-not-sizes_ok-via-else-not-sizes_ok+then-out-lt65536 w ↦ answer-short-out a.heads.now a.entries.now a.orders.now a.out.now (sym c.sizes_ok.ensures ∙ w.if-not-sizes_ok.false) w.if-out-lt65536.true
+    ]
 
 pub used_cells_ok-requires : goal.used_cells_ok-requires
 used_cells_ok-requires c =
