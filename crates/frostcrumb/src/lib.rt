@@ -25,14 +25,24 @@ pub fn read_placement(
 }
 
 // Writes the text of the placement that the lent tables hold over the front of the output: the number of bytes, or refusal 1 or 8.
-pub fn write_placement(heads: &[u16], entries: &[u16], orders: &[u16], out: &mut [u8]) -> Result<usize, Refusal>
+pub fn write_placement(
+    heads: &[u16],
+    entries: &[u16],
+    orders: &[u16],
+    out: &mut [u8],
+) -> Result<usize, Refusal>
     ensures { writes result out.new ≡ writing_of heads.now entries.now orders.now out.old }
 {
     placement_writer::write_placement(heads, entries, orders, out)
 }
 
 // Whether trainee i's list was received: tells an empty list from one that was not received.
-pub fn trainee_receipt(heads: &[u16], entries: &[u16], orders: &[u16], i: usize) -> Result<Receipt, Refusal>
+pub fn trainee_receipt(
+    heads: &[u16],
+    entries: &[u16],
+    orders: &[u16],
+    i: usize,
+) -> Result<Receipt, Refusal>
     ensures { result ≡ trainee_receipt heads.now entries.now orders.now i }
 {
     tables::trainee_receipt(heads, entries, orders, i)
@@ -46,7 +56,13 @@ pub fn trainee_list<'a>(heads: &[u16], entries: &'a [u16], orders: &[u16], i: us
 }
 
 // Tests the stability of a table of n trainees: the first wrong pair, depot over its posts or blocking pair, or stable; or refusal 1, 8 or 7.
-pub fn test_table(heads: &[u16], entries: &[u16], orders: &[u16], n: u16, table: &[u16]) -> Result<Tested, Refusal>
+pub fn test_table(
+    heads: &[u16],
+    entries: &[u16],
+    orders: &[u16],
+    n: u16,
+    table: &[u16],
+) -> Result<Tested, Refusal>
     ensures answer { result ≡ test_of heads.now entries.now orders.now n table.now }
     ensures truth { KeepsUnlessRefused heads.now entries.now orders.now n table.now result }
 {
