@@ -11,7 +11,7 @@ use native.Mathlib.Nat.{add-zero}
 use lib.ListN.{length, get_or, get_or-eq_default}
 use lib.Dec.{ltb, leb}
 use borrow.Author.Tests.{ltb-true, lt-ltb, le-ltb}
-use Rattle.solver.specs.Ends.{struck_in, left_in, broken_in}
+use Rattle.solver.specs.Ends.{struck_in, broken_in}
 use Rattle.solver.proofs.Lawful.{listed-tables}
 use Rattle.meaning.specs.Numbers.{In, ◌&◌, smallest}
 use Rattle.meaning.specs.Lists.{place}
@@ -28,6 +28,7 @@ use Rattle.rows.proofs.FirstPlace.{before-first-marked, first-unmarked}
 use Rattle.ranks.specs.View.{n_of, wishes_of, ranking_of, posts_of, market_of, FullTables}
 use Rattle.ranks.proofs.Places.{place-le, at_place}
 use Rattle.ranks.proofs.Tables.{ranged-tables}
+use Rattle.reasons.specs.Left.{left_cell, open_at}
 use Rattle.reasons.specs.Rows.{marked_at, RowsHold}
 use Rattle.reasons.specs.Scans.{least_in}
 use Rattle.reasons.specs.Reasons.{settled, number_or}
@@ -86,8 +87,8 @@ module _ (h e : List ℕ) (ft : FullTables h e) (S : Struck) (rows : List ℕ) (
       marked-at (market_of h e) (ranged-tables h e ft) (wishes_of h e) (listed-tables h e) ft.trainee_short S rows hold i q r (omega (arith, u, ft.trainee_short i))
       (before-first-marked (get_or rows i 0) q l) u
 
-  pub left-same : left_in h e rows i ≡ first_left (market_of h e) S i (wishes_of h e i)
-  unfolding left_in market_of
+  pub left-same : left_cell h e rows i ≡ first_left (market_of h e) S i (wishes_of h e i)
+  unfolding left_cell market_of
   left-same = ⊎_elim
       (λ (l : length (wishes_of h e i) ≤ first_place_left (get_or rows i 0)).
       get_or-eq_default (wishes_of h e i) 0 l ∙ sym (first-left-none (market_of h e) S i (wishes_of h e i) (λ q u. before-left q (omega arith) u)))
@@ -98,27 +99,36 @@ module _ (h e : List ℕ) (ft : FullTables h e) (S : Struck) (rows : List ℕ) (
       (order (length (wishes_of h e i)) (first_place_left (get_or rows i 0)))
 
   -- as the meaning's table gives it
-  pub left-table-same : left_of (market_of h e) (wishes_of h e) S i ≡ left_in h e rows i
+  pub left-table-same : left_of (market_of h e) (wishes_of h e) S i ≡ left_cell h e rows i
   unfolding market_of
   left-table-same = at_left (market_of h e) (ranged-tables h e ft) (wishes_of h e) (listed-tables h e) S i r ∙ sym left-same
 
 -- ---- a held pair is broken
 
-module _ (h e rows : List ℕ) (ft : FullTables h e) (hold : RowsHold (market_of h e) (wishes_of h e) (struck_in h e rows) rows) (i j : ℕ) (r : In (n_of h) i)
-    (w : List ℕ) (ew : w ≡ wishes_of h e i) where
-  at-wish : (q : ℕ) → q ≡ place w j → place (wishes_of h e i) j ≡ q
-  at-wish q eq = ap (λ (l : List ℕ). place l j) (sym ew) ∙ sym eq
+-- what is not open by the rows is broken
+module _ (h e rows : List ℕ) (ft : FullTables h e) (hold : RowsHold (market_of h e) (wishes_of h e) (struck_in h e rows) rows) (i j : ℕ) (r : In (n_of h) i) where
+  not-listed : place (wishes_of h e i) j ≡ 0 → not (open_at h e rows i j) ≡ broken_in h e rows i j
+  unfolding open_at broken_in left? mutual? market_of ◌&◌
+  not-listed z = rw z
 
-  pub broken-unranked : 0 ≡ place w j → true ≡ broken_in h e rows i j
-  unfolding broken_in left? mutual? market_of ◌&◌
-  broken-unranked z = rw (at-wish 0 z)
+  open-marked : (p : ℕ) → place (wishes_of h e i) j ≡ suc p → not (open_at h e rows i j) ≡ is_marked (get_or rows i 0) p
+  unfolding open_at ◌&◌
+  open-marked p z = let d : suc p - 1 ≡ p = omega arith in rw (z, d, lt-ltb 0 (suc p) (omega arith)) (double (is_marked (get_or rows i 0) p))
+    where
+      double : (b : Bool) → not (not b) ≡ b
+      double true = refl
+      double false = refl
 
-  pub broken-marked : (p : ℕ) → suc p ≡ place w j → is_marked (get_or rows i 0) p ≡ broken_in h e rows i j
+  broken-marked : (p : ℕ) → place (wishes_of h e i) j ≡ suc p → is_marked (get_or rows i 0) p ≡ broken_in h e rows i j
   unfolding broken_in
-  broken-marked p ep = mark_of h e ft (struck_in h e rows) rows hold i j p r (at-wish (suc p) ep)
+  broken-marked p z = mark_of h e ft (struck_in h e rows) rows hold i j p r z
 
-  pub wish-inside : (p : ℕ) → suc p ≡ place w j → p < 64
-  wish-inside p ep = omega (arith, at-wish (suc p) ep, place-le (wishes_of h e i) j, ft.trainee_short i)
+  pub open-broken : not (open_at h e rows i j) ≡ broken_in h e rows i j
+  open-broken = by_place (place (wishes_of h e i) j) refl
+    where
+      by_place : (q : ℕ) → place (wishes_of h e i) j ≡ q → not (open_at h e rows i j) ≡ broken_in h e rows i j
+      by_place zero z = not-listed z
+      by_place (suc p) z = open-marked p z ∙ broken-marked p z
 
 -- ---- room at a depot
 
