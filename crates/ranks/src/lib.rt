@@ -73,35 +73,3 @@ pub fn place_on(list: &[u16], x: usize) -> Option<usize>
 {
     list.iter().position(|y| usize::from(*y) == x)
 }
-
-// The list of trainee i.
-pub fn trainee_part<'a>(heads: &'a [u16], entries: &'a [u16], i: usize) -> &'a [u16]
-    requires { FullTables heads.now entries.now × In (n_of heads.now) i }
-    ensures { result.now ≡ wishes_of heads.now entries.now i }
-{
-    Market { heads, entries }.wishes(i)
-}
-
-// The list of depot j.
-pub fn depot_part<'a>(heads: &'a [u16], entries: &'a [u16], j: usize) -> &'a [u16]
-    requires { FullTables heads.now entries.now × In (m_of heads.now) j }
-    ensures { result.now ≡ ranking_of heads.now entries.now j }
-{
-    Market { heads, entries }.ranking(j)
-}
-
-// The posts of depot j.
-pub fn posts_at(heads: &[u16], entries: &[u16], j: usize) -> usize
-    requires { FullTables heads.now entries.now × In (m_of heads.now) j }
-    ensures { result ≡ posts_of heads.now j }
-{
-    Market { heads, entries }.posts(j)
-}
-
-// Whether trainee i and j rank each other.
-pub fn is_mutual(heads: &[u16], entries: &[u16], i: usize, j: usize) -> bool
-    requires { FullTables heads.now entries.now × In (n_of heads.now) i }
-    ensures { result ≡ mutual? (market_of heads.now entries.now) i j }
-{
-    Market { heads, entries }.is_mutual(i, j)
-}
