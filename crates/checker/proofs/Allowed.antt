@@ -1,65 +1,33 @@
 -- Read off rows that hold the struck set, a step is allowed exactly if the meaning allows it.
 -- Assumes nothing.
 
-use Prim.Native.Nat.{ℕ, ◌-◌, ◌<◌}
-use mathlib.Core.Path.{◌≡◌, refl, sym, ap, ◌∙◌, subst}
-use mathlib.Core.Bool.{true, false, not}
+use Prim.Native.Nat.{ℕ, ◌<◌}
+use mathlib.Core.Path.{◌≡◌, sym, ap, ◌∙◌}
+use mathlib.Core.Bool.{true, not}
 use mathlib.Core.List.{List}
-use native.Mathlib.Omega.{arith}
-use lib.ListN.{length, get_or}
-use lib.Dec.{ltb, eqb}
-use borrow.Author.Tests.{ltb-true, lt-ltb, not-true}
+use lib.ListN.{get_or}
+use lib.Dec.{eqb}
+use borrow.Author.Tests.{not-true}
 use Rattle.checker.specs.Step.{ordered, fits_in, may_strike}
 use Rattle.reasons.specs.Left.{open_at}
+pub use Rattle.reasons.proofs.Lefts.{its-place, on-its-list, open-same}
 use Rattle.meaning.specs.Numbers.{In, ◌&◌}
 use Rattle.meaning.specs.Lists.{place}
 use Rattle.meaning.specs.Market.{mutual?}
 use Rattle.meaning.specs.Strikes.{Struck, fits, allowed, allowed_strike, left?}
-use Rattle.meaning.proofs.Booleans.{never, is_false, iff, and_left, and_right, and_intro}
+use Rattle.meaning.proofs.Booleans.{iff, and_left, and_right, and_intro}
 use Rattle.meaning.proofs.Pairs.{mutual-is, is-mutual}
 use Rattle.meaning.proofs.Left.{left-pair, left-unstruck, is-left}
-use Rattle.rows.specs.Marks.{is_marked}
 use Rattle.tables.proofs.Tests.{in_within}
 use Rattle.ranks.specs.View.{n_of, m_of, wishes_of, ranking_of, market_of, FullTables}
-use Rattle.ranks.proofs.Places.{place-le, at_place}
 use Rattle.ranks.proofs.Tables.{ranged-tables}
 use Rattle.reasons.specs.Rows.{RowsHold, row_pairs, standing_of, OrderRows}
-use Rattle.reasons.proofs.Settled.{left_at, marked-at}
 use Rattle.reasons.proofs.Choosing.{gone_same, passed-test, barred-same}
 use Rattle.meaning.specs.declared.Reason.{Reason}
 use Rattle.meaning.specs.declared.Reason.TheVariants.{Barred, HeldElsewhere, PostsGone, Passed}
 use Rattle.meaning.specs.declared.Strike.{Strike}
 
--- the place of a depot that a trainee ranks is one of the row's
-module _ (h e : List ℕ) (ft : FullTables h e) (i j : ℕ) (l : 0 < place (wishes_of h e i) j) where
-  pub its-place : get_or (wishes_of h e i) (place (wishes_of h e i) j - 1) 0 ≡ j
-  its-place = at_place (wishes_of h e i) j (place (wishes_of h e i) j - 1) (omega arith)
-
-  pub on-its-list : place (wishes_of h e i) j - 1 < length (wishes_of h e i)
-  on-its-list = omega (arith, place-le (wishes_of h e i) j)
-
-  in-its-row : place (wishes_of h e i) j - 1 < 64
-  in-its-row = omega (arith, on-its-list, ft.trainee_short i)
-
 module _ (h e : List ℕ) (ft : FullTables h e) (S : Struck) (rows : List ℕ) (hold : RowsHold (market_of h e) (wishes_of h e) S rows) where
-  -- a place without a mark is a pair left
-  pub open-same : (i j : ℕ) → In (n_of h) i → open_at h e rows i j ≡ left? (market_of h e) S i j
-  unfolding open_at market_of
-  open-same i j ri = iff there back
-    where
-      there : (ltb 0 (place (wishes_of h e i) j) & not (is_marked (get_or rows i 0) (place (wishes_of h e i) j - 1))) ≡ true → left? (market_of h e) S i j ≡ true
-      there t =
-          let l = ltb-true 0 (place (wishes_of h e i) j) (and_left _ _ t) in
-          subst (λ x. left? (market_of h e) S i x ≡ true) (its-place h e ft i j l)
-          (left_at (market_of h e) (ranged-tables h e ft) (wishes_of h e) (λ i j. refl) ft.trainee_short S rows hold i _ ri (in-its-row h e ft i j l)
-          (not-true _ (and_right (ltb 0 (place (wishes_of h e i) j)) _ t))).left
-
-      back : left? (market_of h e) S i j ≡ true → (ltb 0 (place (wishes_of h e i) j) & not (is_marked (get_or rows i 0) (place (wishes_of h e i) j - 1))) ≡ true
-      back t =
-          let l : 0 < place (wishes_of h e i) j = (left-pair (market_of h e) S i j t).ranks in
-          and_intro (lt-ltb 0 (place (wishes_of h e i) j) l) (ap not (is_false _ (λ u. never t (subst (λ x. left? (market_of h e) S i x ≡ false) (its-place h e ft i j l)
-          (marked-at (market_of h e) (ranged-tables h e ft) (wishes_of h e) (λ i j. refl) ft.trainee_short S rows hold i _ ri (in-its-row h e ft i j l) u (on-its-list h e ft i j l))))))
-
   module _ (holds bars : List ℕ) (orders : OrderRows h holds bars) (i j : ℕ) (ri : In (n_of h) i) where
     depot-there : left? (market_of h e) S i j ≡ true → In (m_of h) j
     unfolding market_of
@@ -87,7 +55,7 @@ module _ (h e : List ℕ) (ft : FullTables h e) (S : Struck) (rows : List ℕ) (
       where
         there : (open_at h e rows i j & fits_in h e holds bars rows i j r) ≡ true → (mutual? (market_of h e) i j & (not (S i j) & fits (market_of h e) (standing_of h holds bars) S i j r)) ≡ true
         there t =
-            let l = sym (open-same i j ri) ∙ and_left _ _ t in
+            let l = sym (open-same h e ft S rows hold i j ri) ∙ and_left _ _ t in
             and_intro (is-mutual (market_of h e) i j (left-pair (market_of h e) S i j l))
             (and_intro (ap not (left-unstruck (market_of h e) S i j l)) (sym (fits-same l r) ∙ and_right (open_at h e rows i j) _ t))
 
@@ -95,7 +63,7 @@ module _ (h e : List ℕ) (ft : FullTables h e) (S : Struck) (rows : List ℕ) (
         back t =
             let u = and_right (mutual? (market_of h e) i j) _ t in
             let l = is-left (market_of h e) S i j (mutual-is (market_of h e) i j (and_left _ _ t)) (not-true _ (and_left _ _ u)) in
-            and_intro (open-same i j ri ∙ l) (fits-same l r ∙ and_right (not (S i j)) _ u)
+            and_intro (open-same h e ft S rows hold i j ri ∙ l) (fits-same l r ∙ and_right (not (S i j)) _ u)
 
   -- the step's answer is the meaning's
   pub step_same : (holds bars : List ℕ) → OrderRows h holds bars → (s : Strike) → In (n_of h) s.trainee

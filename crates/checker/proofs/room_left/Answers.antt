@@ -10,10 +10,6 @@ pub counts_of-counts-requires : goal.counts_of-counts-requires
 counts_of-counts-requires c = let r = c.args.rows.now in
     let f = left-front _ _ r.marks.now r.market.full _ c.trainees.ensures _ (omega (arith, r.market.full.few_trainees)) c.left_table-left.ensures in (omega (arith, f.long, r.market.full.few_trainees), f.low)
 
-pub first_over-requires : goal.first_over-requires
-first_over-requires c = let r = c.args.rows.now in
-    let f = left-front _ _ r.marks.now r.market.full _ c.trainees.ensures _ (omega (arith, r.market.full.few_trainees)) c.left_table-left.ensures in counts_all _ _ _ c.counts_of-counts.result f.long c.counts_of-counts.ensures
-
 pub returns-then-is_none : goal.returns-then-is_none
 returns-then-is_none c = let r = c.args.rows.now in
     let f = left-front _ _ r.marks.now r.market.full _ c.trainees.ensures _ (omega (arith, r.market.full.few_trainees)) c.left_table-left.ensures in
