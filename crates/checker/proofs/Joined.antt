@@ -4,14 +4,14 @@
 -- ---- the left table
 
 -- the first left on a list stands at f, where all before f are struck or strangers and f isn't
-use Prim.Native.Nat.{ℕ, zero, suc, ◌+◌, ◌-◌, ◌≤◌, ◌<◌}
+use Prim.Native.Nat.{ℕ, zero, suc, ◌+◌, ◌-◌, ◌≤◌}
 use mathlib.Core.Path.{◌≡◌, refl, sym, ap, ap₂, ◌∙◌, subst}
 use mathlib.Core.Logic.{◌⊎◌, inl, inr}
 use mathlib.Core.Bool.{Bool, true, false, not}
 use mathlib.Core.List.{List, [], ◌∷◌, ◌++◌}
 use native.Mathlib.Omega.{arith}
 use native.Mathlib.Nat.{add-zero}
-use lib.ListN.{length, get_or, take}
+use lib.ListN.{get_or, take}
 use lib.Dec.{ltb, eqb}
 use borrow.Author.Tests.{lt-ltb, eqb-true, eq-eqb, ne_eqb, not-true}
 use Rattle.checker.specs.Step.{ordered}
@@ -19,7 +19,7 @@ use Rattle.checker.specs.Ends.{left_cells, obeys_rows, all_obey, table_fits, pla
 use Rattle.rulings.specs.Held.{outcome_in}
 use Rattle.checker.proofs.Ways.{and-stops, and-goes}
 use Rattle.checker.proofs.Allowed.{open-same}
-use Rattle.reasons.specs.Left.{left_cell}
+use Rattle.reasons.proofs.Lefts.{cell-same}
 use Rattle.meaning.specs.Numbers.{In, ◌&◌, imp, all}
 use Rattle.meaning.specs.Lists.{place}
 use Rattle.meaning.specs.Placement.{Order}
@@ -32,25 +32,14 @@ use Rattle.meaning.proofs.Pairs.{mutual-is}
 use Rattle.meaning.proofs.Matchings.{stable-is, is-stable, respecting-is, is-respecting}
 use Rattle.meaning.proofs.Endings.{same-cells}
 use Rattle.rows.specs.Marks.{is_marked}
-use Rattle.rows.specs.Left.{first_place_left}
-use Rattle.rows.proofs.FirstPlace.{before-first-marked, first-unmarked}
 use Rattle.tables.specs.Decode.{within}
 use Rattle.tables.proofs.Tests.{in_within, within_in}
 use Rattle.ranks.specs.View.{n_of, m_of, wishes_of, posts_of, market_of, FullTables}
 use Rattle.ranks.proofs.Tables.{ranged-tables}
 use Rattle.reasons.specs.Rows.{RowsHold, row_pairs, standing_of, OrderRows}
 use Rattle.reasons.specs.Reasons.{settled}
-use Rattle.reasons.proofs.Settled.{left_at, marked-at, down-first}
+use Rattle.reasons.proofs.Settled.{down-first}
 use Rattle.meaning.specs.declared.Ending.{Ending}
-
-first_on_lem : (K : Market) (S : Struck) (i : ℕ) (l : List ℕ) (f : ℕ) → ((p : ℕ) → p < f → p < length l → left? K S i (get_or l p 0) ≡ false)
-    → (f < length l → left? K S i (get_or l f 0) ≡ true) → first_left K S i l ≡ get_or l f 0
-unfolding first_left
-first_on_lem K S i [] f h g = refl
-first_on_lem K S i (j ∷ js) zero h g = rw (g (omega arith), first_left)
-first_on_lem K S i (j ∷ js) (suc f) h g =
-    let u : left? K S i j ≡ false = h 0 (omega arith) (omega arith) in
-    rw (u, first_left) (first_on_lem K S i js f (λ p a b. h (suc p) (omega arith) (omega arith)) (λ a. g (omega arith)))
 
 left-from-more : (K : Market) (lists : ℕ → List ℕ) (S : Struck) (d a : ℕ) → left_from K lists S (suc d) a ≡ left_from K lists S d a ++ (first_left K S (a + d) (lists (a + d)) ∷ [])
 unfolding left_from
@@ -60,18 +49,12 @@ left-from-more K lists S (suc d) a =
     ap (λ (l : List ℕ). first_left K S a (lists a) ∷ l) (left-from-more K lists S d (suc a) ∙ rw z)
 
 module _ (h e : List ℕ) (ft : FullTables h e) (S : Struck) (rows : List ℕ) (hold : RowsHold (market_of h e) (wishes_of h e) S rows) where
-  cell_same : (i : ℕ) → In (n_of h) i → left_cell h e rows i ≡ first_left (market_of h e) S i (wishes_of h e i)
-  unfolding left_cell market_of
-  cell_same i ri = sym (first_on_lem (market_of h e) S i (wishes_of h e i) (first_place_left (get_or rows i 0))
-      (λ p a b. marked-at (market_of h e) (ranged-tables h e ft) (wishes_of h e) (λ i j. refl) ft.trainee_short S rows hold i p ri (omega (arith, ft.trainee_short i)) (before-first-marked (get_or rows i 0) p a) b)
-      (λ b. (left_at (market_of h e) (ranged-tables h e ft) (wishes_of h e) (λ i j. refl) ft.trainee_short S rows hold i _ ri (omega (arith, ft.trainee_short i)) (first-unmarked (get_or rows i 0))).left))
-
   cells_same : (k : ℕ) → k ≤ n_of h → left_cells h e rows k ≡ left_from (market_of h e) (wishes_of h e) S k 1
   unfolding left_cells left_from
   cells_same zero l = refl
   cells_same (suc k) l =
       let z : 1 + k ≡ suc k = omega arith in
-      ap₂ (λ (c : List ℕ) (x : ℕ). c ++ (x ∷ [])) (cells_same k (omega arith)) (cell_same (suc k) (record { low = omega arith; high = l }))
+      ap₂ (λ (c : List ℕ) (x : ℕ). c ++ (x ∷ [])) (cells_same k (omega arith)) (cell-same h e ft S rows hold (suc k) (record { low = omega arith; high = l }))
       ∙ sym (left-from-more (market_of h e) (wishes_of h e) S k 1 ∙ rw z)
 
   pub left-same : left_cells h e rows (n_of h) ≡ left_table (market_of h e) (wishes_of h e) S

@@ -1,10 +1,10 @@
 -- Which pairs are open by the rows, and the left table as it is laid cell by cell.
 -- Assumes nothing.
-use Prim.Native.Nat.{ℕ, suc, ◌+◌, ◌-◌, ◌<◌}
+use Prim.Native.Nat.{ℕ, zero, suc, ◌+◌, ◌-◌, ◌<◌}
 use mathlib.Core.Path.{◌≡◌, refl, sym, ap, ◌∙◌, subst}
 use mathlib.Core.Logic.{⊎_elim}
 use mathlib.Core.Bool.{Bool, true, false, not}
-use mathlib.Core.List.{List}
+use mathlib.Core.List.{List, [], ◌∷◌}
 use native.Mathlib.Omega.{arith}
 use lib.ListN.{length-set, length, get_or, set, get_or-eq_default}
 use lib.Seq.{get_or-set_same, get_or-set_other}
@@ -16,12 +16,14 @@ use Rattle.std.specs.Option.{is_some, unwrap_or, option_copied, IfSome}
 use Rattle.std.proofs.lemmas.List.{get_or_read}
 use Rattle.meaning.specs.Numbers.{In, ◌&◌}
 use Rattle.meaning.specs.Lists.{place}
-use Rattle.meaning.specs.Strikes.{Struck, left?}
+use Rattle.meaning.specs.Strikes.{Struck, left?, first_left}
+use Rattle.meaning.specs.Market.{Market}
 use Rattle.meaning.proofs.Numbers.{same}
 use Rattle.meaning.proofs.Booleans.{never, is_false, iff, and_left, and_right, and_intro}
 use Rattle.meaning.proofs.Left.{left-pair}
 use Rattle.rows.specs.Marks.{is_marked}
 use Rattle.rows.specs.Left.{first_place_left}
+use Rattle.rows.proofs.FirstPlace.{before-first-marked, first-unmarked}
 use Rattle.ranks.specs.View.{n_of, wishes_of, market_of, FullTables}
 use Rattle.ranks.proofs.Places.{place-le, at_place}
 use Rattle.ranks.proofs.Tables.{ranged-tables}
@@ -90,6 +92,23 @@ pub left_there : (h e rows : List ℕ) (i p : ℕ) (w : List ℕ) → w ≡ wish
     → (o : rust.Option (Bor ℕ)) → is_some o ≡ ltb p (length w) → IfSome o (λ x. x.now ≡ get_or w p x.now) → unwrap_or (option_copied o) 0 ≡ left_cell h e rows i
 unfolding left_cell
 left_there h e rows i p w ew ep o eo v = got w p o eo v ∙ rw (ew, ep)
+
+-- the first left on a list stands at f, where all before f are struck or strangers and f isn't
+first-left-at : (K : Market) (S : Struck) (i : ℕ) (l : List ℕ) (f : ℕ) → ((p : ℕ) → p < f → p < length l → left? K S i (get_or l p 0) ≡ false)
+    → (f < length l → left? K S i (get_or l f 0) ≡ true) → first_left K S i l ≡ get_or l f 0
+unfolding first_left
+first-left-at K S i [] f h g = refl
+first-left-at K S i (j ∷ js) zero h g = rw (g (omega arith), first_left)
+first-left-at K S i (j ∷ js) (suc f) h g =
+    let u : left? K S i j ≡ false = h 0 (omega arith) (omega arith) in
+    rw (u, first_left) (first-left-at K S i js f (λ p a b. h (suc p) (omega arith) (omega arith)) (λ a. g (omega arith)))
+
+module _ (h e : List ℕ) (ft : FullTables h e) (S : Struck) (rows : List ℕ) (hold : RowsHold (market_of h e) (wishes_of h e) S rows) where
+  pub cell-same : (i : ℕ) → In (n_of h) i → left_cell h e rows i ≡ first_left (market_of h e) S i (wishes_of h e i)
+  unfolding left_cell market_of
+  cell-same i ri = sym (first-left-at (market_of h e) S i (wishes_of h e i) (first_place_left (get_or rows i 0))
+      (λ p a b. marked-at (market_of h e) (ranged-tables h e ft) (wishes_of h e) (λ i j. refl) ft.trainee_short S rows hold i p ri (omega (arith, ft.trainee_short i)) (before-first-marked (get_or rows i 0) p a) b)
+      (λ b. (left_at (market_of h e) (ranged-tables h e ft) (wishes_of h e) (λ i j. refl) ft.trainee_short S rows hold i _ ri (omega (arith, ft.trainee_short i)) (first-unmarked (get_or rows i 0))).left))
 
 -- no cell is laid yet
 pub laid_none : (h e rows old : List ℕ) → LaidTo h e rows old 0 old

@@ -6,27 +6,20 @@ use mathlib.Core.Logic.{⊎_elim}
 use mathlib.Core.Bool.{Bool, true, false, not}
 use mathlib.Core.List.{List, []}
 use native.Mathlib.Omega.{arith}
-use lib.ListN.{length, get_or, set}
-use lib.Seq.{get_or-set_same, get_or-set_other}
-use lib.Dec.{ltb, eqb}
-use borrow.Author.Tests.{lt-ltb, le-ltb, le-leb, lt-leb, eq-eqb, ne_eqb}
+use lib.ListN.{length, get_or}
+use lib.Dec.{ltb}
+use borrow.Author.Tests.{lt-ltb, le-ltb, le-leb, lt-leb}
 use Rattle.reasons.specs.Rows.{marked_at, RowsHold, shut_at, start_row}
 use Rattle.meaning.specs.Numbers.{In, ◌&◌}
 use Rattle.meaning.specs.Lists.{place}
 use Rattle.meaning.specs.Market.{Market, mutual?}
 use Rattle.meaning.specs.Strikes.{Struck, nothing, struck, left?}
-use Rattle.meaning.proofs.Numbers.{order, same}
+use Rattle.meaning.proofs.Numbers.{order}
 use Rattle.rows.specs.Marks.{is_marked, mark_if, past_end}
 use Rattle.rows.proofs.Marking.{row-where-at, past-end-fits, past-end-at}
 use Rattle.rows.proofs.Filling.{Filled, filled_none, filled_more, filled-all}
 use Rattle.ranks.specs.View.{n_of, wishes_of, ranking_of, market_of}
 use Rattle.ranks.proofs.Places.{place-of-at}
-
-pub is_zero : (q : ℕ) → eqb q 0 ≡ not (ltb 0 q)
-is_zero q = ⊎_elim
-    (λ (z : q ≤ 0). let e : q ≡ 0 = omega arith in rw (eq-eqb q 0 e, le-ltb 0 q z))
-    (λ (l : 0 < q). let n : q ≡ 0 → ⊥ = λ e. omega arith in rw (ne_eqb q 0 n, lt-ltb 0 q l))
-    (order q 0)
 
 module _ (h e : List ℕ) (i : ℕ) where
   -- inside the list the test is whether the depot ranks the trainee
@@ -59,12 +52,6 @@ module _ (h e : List ℕ) (i : ℕ) where
 -- the rows below i are the start rows
 abbrev pub StartedBelow : List ℕ → List ℕ → ℕ → List ℕ → Type 0
 StartedBelow h e i rows = (k : ℕ) → 1 ≤ k → k < i → get_or rows k 0 ≡ start_row h e k
-
-pub started-more : (h e : List ℕ) (i : ℕ) (rows : List ℕ) → i < length rows → StartedBelow h e i rows → (x : ℕ) → x ≡ start_row h e i → StartedBelow h e (i + 1) (set rows i x)
-started-more h e i rows l f x q k a b = ⊎_elim
-    (λ (z : k ≡ i). rw z (get_or-set_same rows i x 0 l ∙ q))
-    (λ n. get_or-set_other rows i k x 0 n ∙ f k a (omega arith))
-    (same k i)
 
 marked-past : (K : Market) (lists : ℕ → List ℕ) (S : Struck) (k p : ℕ) → length (lists k) ≤ p → marked_at K lists S k p ≡ true
 unfolding marked_at ◌&◌

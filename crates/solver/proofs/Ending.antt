@@ -1,37 +1,38 @@
 -- What the rows say at the end is what the set of struck pairs says: the left table, a broken hold, room.
 -- Assumes nothing.
-use Prim.Native.Nat.{ℕ, zero, suc, ◌+◌, ◌-◌, ◌≤◌, ◌<◌}
+use Prim.Native.Nat.{ℕ, suc, ◌+◌, ◌-◌, ◌≤◌, ◌<◌}
 use mathlib.Core.Path.{◌≡◌, refl, sym, ap, ◌∙◌, fun_ext}
-use mathlib.Core.Logic.{◌⊎◌, inl, inr, ⊎_elim}
+use mathlib.Core.Logic.{◌⊎◌, inl, inr}
 use mathlib.Core.Bool.{Bool, true, false, not}
 use mathlib.Core.Option.{Option, none}
-use mathlib.Core.List.{List, [], ◌∷◌}
+use mathlib.Core.List.{List}
 use native.Mathlib.Omega.{arith}
 use native.Mathlib.Nat.{add-zero}
-use lib.ListN.{length, get_or, get_or-eq_default}
+use lib.ListN.{length, get_or}
 use lib.Dec.{ltb, leb}
 use borrow.Author.Tests.{ltb-true, lt-ltb, le-ltb}
-use Rattle.solver.specs.Ends.{struck_in, left_in, broken_in}
+use Rattle.solver.specs.Ends.{struck_in, broken_in}
 use Rattle.solver.proofs.Lawful.{listed-tables}
 use Rattle.meaning.specs.Numbers.{In, ◌&◌, smallest}
 use Rattle.meaning.specs.Lists.{place}
 use Rattle.meaning.specs.Market.{Market, Table, Mutual, mutual?, placed}
-use Rattle.meaning.specs.Strikes.{Struck, down_struck, left?, first_left}
+use Rattle.meaning.specs.Strikes.{Struck, down_struck, left?}
 use Rattle.meaning.specs.Endings.{left_of, room?}
 use Rattle.meaning.proofs.Booleans.{true-or-false, never, is_false, iff, and_left, and_right, and_intro}
-use Rattle.meaning.proofs.Numbers.{order, Smallest, least, no-least, smallest-is}
+use Rattle.meaning.proofs.Numbers.{Smallest, least, no-least, smallest-is}
 use Rattle.meaning.proofs.Pairs.{mutual-is, is-mutual}
 use Rattle.meaning.proofs.Left.{at_left}
 use Rattle.rows.specs.Marks.{is_marked}
 use Rattle.rows.specs.Left.{first_place_left}
-use Rattle.rows.proofs.FirstPlace.{before-first-marked, first-unmarked}
 use Rattle.ranks.specs.View.{n_of, wishes_of, ranking_of, posts_of, market_of, FullTables}
 use Rattle.ranks.proofs.Places.{place-le, at_place}
 use Rattle.ranks.proofs.Tables.{ranged-tables}
+use Rattle.reasons.specs.Left.{left_cell, open_at}
 use Rattle.reasons.specs.Rows.{marked_at, RowsHold}
 use Rattle.reasons.specs.Scans.{least_in}
 use Rattle.reasons.specs.Reasons.{settled, number_or}
-use Rattle.reasons.proofs.Settled.{left_at, marked-at, down-first}
+use Rattle.reasons.proofs.Settled.{down-first}
+use Rattle.reasons.proofs.Lefts.{open-same, cell-same}
 use Rattle.reasons.proofs.Least.{smallest-list}
 
 -- ---- the struck pairs of rows
@@ -64,61 +65,19 @@ module _ (h e : List ℕ) (ft : FullTables h e) (S : Struck) (rows : List ℕ) (
           rw (t, mark_of i j (place (wishes_of h e i) j - 1) ((ranged-tables h e ft).trainee_in_range i j m.ranks) k) (not_left (market_of h e) S i j t)
       one i j (inr u) = rw u (sym (is_false (S i j) (λ s. never (pairs i j s) u)))
 
--- ---- the left table
-
--- the first of a list that is left, where its place is known
-first-left-at : (K : Market) (S : Struck) (i : ℕ) (l : List ℕ) (p : ℕ) → p < length l → left? K S i (get_or l p 0) ≡ true
-    → ((q : ℕ) → q < p → left? K S i (get_or l q 0) ≡ false) → first_left K S i l ≡ get_or l p 0
-unfolding first_left
-first-left-at K S i [] p l t f = absurd (omega arith)
-first-left-at K S i (j ∷ js) zero l t f = rw (t, first_left)
-first-left-at K S i (j ∷ js) (suc p) l t f = rw (f 0 (omega arith), first_left) (first-left-at K S i js p (omega arith) t (λ q u. f (suc q) (omega arith)))
-
-first-left-none : (K : Market) (S : Struck) (i : ℕ) (l : List ℕ) → ((q : ℕ) → q < length l → left? K S i (get_or l q 0) ≡ false) → first_left K S i l ≡ 0
-unfolding first_left
-first-left-none K S i [] f = refl
-first-left-none K S i (j ∷ js) f = rw (f 0 (omega arith), first_left) (first-left-none K S i js (λ q u. f (suc q) (omega arith)))
+-- ---- the left table, and a held pair that is broken
 
 module _ (h e : List ℕ) (ft : FullTables h e) (S : Struck) (rows : List ℕ) (hold : RowsHold (market_of h e) (wishes_of h e) S rows) (i : ℕ) (r : In (n_of h) i) where
-  before-left : (q : ℕ) → q < first_place_left (get_or rows i 0) → q < length (wishes_of h e i) → left? (market_of h e) S i (get_or (wishes_of h e i) q 0) ≡ false
+  -- the cell that the rows lay is the meaning's
+  pub left-table-same : left_of (market_of h e) (wishes_of h e) S i ≡ left_cell h e rows i
   unfolding market_of
-  before-left q l u =
-      marked-at (market_of h e) (ranged-tables h e ft) (wishes_of h e) (listed-tables h e) ft.trainee_short S rows hold i q r (omega (arith, u, ft.trainee_short i))
-      (before-first-marked (get_or rows i 0) q l) u
+  left-table-same = at_left (market_of h e) (ranged-tables h e ft) (wishes_of h e) (listed-tables h e) S i r ∙ sym (cell-same h e ft S rows hold i r)
 
-  pub left-same : left_in h e rows i ≡ first_left (market_of h e) S i (wishes_of h e i)
-  unfolding left_in market_of
-  left-same = ⊎_elim
-      (λ (l : length (wishes_of h e i) ≤ first_place_left (get_or rows i 0)).
-      get_or-eq_default (wishes_of h e i) 0 l ∙ sym (first-left-none (market_of h e) S i (wishes_of h e i) (λ q u. before-left q (omega arith) u)))
-      (λ (l : first_place_left (get_or rows i 0) < length (wishes_of h e i)).
-      let a = left_at (market_of h e) (ranged-tables h e ft) (wishes_of h e) (listed-tables h e) ft.trainee_short S rows hold i (first_place_left (get_or rows i 0)) r
-      (omega (arith, l, ft.trainee_short i)) (first-unmarked (get_or rows i 0)) in
-      sym (first-left-at (market_of h e) S i (wishes_of h e i) (first_place_left (get_or rows i 0)) l a.left (λ q u. before-left q u (omega arith))))
-      (order (length (wishes_of h e i)) (first_place_left (get_or rows i 0)))
-
-  -- as the meaning's table gives it
-  pub left-table-same : left_of (market_of h e) (wishes_of h e) S i ≡ left_in h e rows i
-  unfolding market_of
-  left-table-same = at_left (market_of h e) (ranged-tables h e ft) (wishes_of h e) (listed-tables h e) S i r ∙ sym left-same
-
--- ---- a held pair is broken
-
-module _ (h e rows : List ℕ) (ft : FullTables h e) (hold : RowsHold (market_of h e) (wishes_of h e) (struck_in h e rows) rows) (i j : ℕ) (r : In (n_of h) i)
-    (w : List ℕ) (ew : w ≡ wishes_of h e i) where
-  at-wish : (q : ℕ) → q ≡ place w j → place (wishes_of h e i) j ≡ q
-  at-wish q eq = ap (λ (l : List ℕ). place l j) (sym ew) ∙ sym eq
-
-  pub broken-unranked : 0 ≡ place w j → true ≡ broken_in h e rows i j
-  unfolding broken_in left? mutual? market_of ◌&◌
-  broken-unranked z = rw (at-wish 0 z)
-
-  pub broken-marked : (p : ℕ) → suc p ≡ place w j → is_marked (get_or rows i 0) p ≡ broken_in h e rows i j
-  unfolding broken_in
-  broken-marked p ep = mark_of h e ft (struck_in h e rows) rows hold i j p r (at-wish (suc p) ep)
-
-  pub wish-inside : (p : ℕ) → suc p ≡ place w j → p < 64
-  wish-inside p ep = omega (arith, at-wish (suc p) ep, place-le (wishes_of h e i) j, ft.trainee_short i)
+-- what is not open by the rows is broken
+pub open-broken : (h e rows : List ℕ) → FullTables h e → RowsHold (market_of h e) (wishes_of h e) (struck_in h e rows) rows → (i j : ℕ) → In (n_of h) i
+    → not (open_at h e rows i j) ≡ broken_in h e rows i j
+unfolding broken_in
+open-broken h e rows ft hold i j r = ap not (open-same h e ft (struck_in h e rows) rows hold i j r)
 
 -- ---- room at a depot
 

@@ -3,28 +3,28 @@
 use Prim.Native.Nat.{ℕ, zero, suc, ◌+◌, ◌-◌, ◌≤◌, ◌<◌}
 use mathlib.Core.Path.{◌≡◌, refl, sym, ap, ap₂, ◌∙◌, subst}
 use mathlib.Core.Logic.{⊎_elim}
-use mathlib.Core.Bool.{Bool, true, false}
+use mathlib.Core.Bool.{Bool, true, false, not}
 use lib.Dec.{eqb}
 use borrow.Author.Tests.{eqb-true, eqb-false}
 use mathlib.Core.Option.{Option, none, some}
 use mathlib.Core.List.{List, [], ◌∷◌, ◌++◌}
 use native.Mathlib.Omega.{arith}
 use native.Mathlib.Numerals.{add-one}
-use lib.ListN.{drop_of_length-le, length-set, length, get_or, drop, set, length-append, length-drop, get_or-eq_default, get_or-append}
-use lib.Seq.{drop-cons, get_or-drop, get_or-set_same, get_or-set_other, ext_get_or, get_or-append-add}
-use Rattle.solver.specs.Ends.{struck_in, left_in, broken_in, broken_pair}
-use Rattle.solver.proofs.Ending.{left-table-same}
+use lib.ListN.{drop_of_length-le, length, get_or, drop, length-append, length-drop, get_or-append}
+use lib.Seq.{drop-cons, get_or-drop, ext_get_or, get_or-append-add}
+use Rattle.solver.specs.Ends.{struck_in, broken_in, broken_pair}
+use Rattle.solver.proofs.Ending.{open-broken, left-table-same}
 use Rattle.meaning.specs.Numbers.{In, ◌&◌, smallest}
 use Rattle.meaning.specs.Placement.{held, Order}
 use Rattle.meaning.specs.Market.{same_kind, Table}
 use Rattle.meaning.specs.Strikes.{fits}
 use Rattle.meaning.specs.Endings.{Outcome, none_room, table_of, left_table, broken?, first_broken, room?, room_or, room_from}
 use Rattle.meaning.specs.Examples.{hold}
-use Rattle.meaning.proofs.Numbers.{order, same}
+use Rattle.meaning.proofs.Numbers.{order}
 use Rattle.meaning.proofs.Left.{left-table-length}
-use Rattle.rows.specs.Left.{first_place_left}
 use Rattle.tables.specs.Cells.{laid, order_start}
 use Rattle.ranks.specs.View.{n_of, wishes_of, market_of, FullTables}
+use Rattle.reasons.specs.Left.{open_at, LaidTo}
 use Rattle.reasons.specs.Rows.{RowsHold}
 use Rattle.reasons.specs.Orders.{kind_of, order_in, trainee_in, depot_in, orders_in}
 use Rattle.std.specs.Prelude.{Some, None}
@@ -73,11 +73,12 @@ module _ (h e o rows : List ℕ) (k : ℕ) (b : Bool) (eb : b ≡ eqb (get_or o 
   unfolding broken? order_in ◌&◌
   not-a-hold u = u ∙ rw (barred-kind (get_or o (order_start k) 0) (eqb-false _ _ (sym eb ∙ u)))
 
-  pub a-hold : b ≡ true → (i j : ℕ) → i ≡ trainee_in o k → j ≡ depot_in o k → broken_in h e rows i j ≡ broken? (market_of h e) (struck_in h e rows) (order_in o k)
+  pub a-hold : b ≡ true → (i j : ℕ) → i ≡ trainee_in o k → j ≡ depot_in o k → (d : Bool) → d ≡ open_at h e rows i j → FullTables h e
+      → RowsHold (market_of h e) (wishes_of h e) (struck_in h e rows) rows → In (n_of h) i → not d ≡ broken? (market_of h e) (struck_in h e rows) (order_in o k)
   unfolding broken? order_in broken_in ◌&◌
-  a-hold t i j ei ej =
+  a-hold t i j ei ej d ed ft hold r =
       let s : same_kind held (kind_of (get_or o (order_start k) 0)) ≡ true = held-kind (get_or o (order_start k) 0) (eqb-true _ _ (sym eb ∙ t)) in
-      rw (s, ei, ej)
+      ap not ed ∙ open-broken h e rows ft hold i j r ∙ rw (s, ei, ej)
 
 module _ (h e o rows : List ℕ) (c k : ℕ) (inv : first_broken (market_of h e) (struck_in h e rows) (orders_in o c) ≡ first_broken (market_of h e) (struck_in h e rows) (drop k (orders_in o c))) where
   broken-first : k < c → broken? (market_of h e) (struck_in h e rows) (order_in o k) ≡ true → first_broken (market_of h e) (struck_in h e rows) (drop k (orders_in o c)) ≡ some (order_in o k)
@@ -103,36 +104,10 @@ module _ (h e o rows : List ℕ) (c k : ℕ) (inv : first_broken (market_of h e)
 
 -- ---- the left table
 
-pub left_there : (h e rows : List ℕ) (i p : ℕ) (w : List ℕ) → w ≡ wishes_of h e i → p ≡ first_place_left (get_or rows i 0) → get_or w p 0 ≡ left_in h e rows i
-unfolding left_in
-left_there h e rows i p w ew ep = rw (ew, ep)
-
-pub left-none : (h e rows : List ℕ) (i p : ℕ) (w : List ℕ) → w ≡ wishes_of h e i → p ≡ first_place_left (get_or rows i 0) → length w ≤ p → 0 ≡ left_in h e rows i
-left-none h e rows i p w ew ep l = sym (get_or-eq_default w 0 l) ∙ left_there h e rows i p w ew ep
-
--- cells filled below k with the left table, and untouched from k on
-pub record LaidTo (h e rows : List ℕ) (old : List ℕ) (k : ℕ) (table : List ℕ) : Type 0 where
-  pub long : length table ≡ length old
-  pub filled : (q : ℕ) → q < k → get_or table q 0 ≡ left_in h e rows (q + 1)
-  pub untouched : (q : ℕ) → k ≤ q → get_or table q 0 ≡ get_or old q 0
-
-pub laid_none : (h e rows old : List ℕ) → LaidTo h e rows old 0 old
-laid_none h e rows old = record { long = refl; filled = λ q l. absurd (omega arith); untouched = λ q l. refl }
-
-pub laid_more : (h e rows old : List ℕ) (k : ℕ) (table : List ℕ) → k < length table → LaidTo h e rows old k table → (x : ℕ) → x ≡ left_in h e rows (k + 1) → LaidTo h e rows old (k + 1) (set table k x)
-laid_more h e rows old k table l inv x ex = record {
-  long = length-set table k x ∙ inv.long;
-  filled = λ q u. ⊎_elim
-      (λ (z : q ≡ k). rw z (get_or-set_same table k x 0 l ∙ ex))
-      (λ n. get_or-set_other table k q x 0 n ∙ inv.filled q (omega arith))
-      (same q k);
-  untouched = λ q u. get_or-set_other table k q x 0 (λ z. omega arith) ∙ inv.untouched q (omega arith);
-}
-
 pub laid-all : (h e rows old table : List ℕ) → FullTables h e → RowsHold (market_of h e) (wishes_of h e) (struck_in h e rows) rows → n_of h ≤ length old
-    → (k : ℕ) → k ≡ n_of h → LaidTo h e rows old k table → table ≡ laid (left_table (market_of h e) (wishes_of h e) (struck_in h e rows)) old
+    → LaidTo h e rows old (n_of h) table → table ≡ laid (left_table (market_of h e) (wishes_of h e) (struck_in h e rows)) old
 unfolding laid market_of table_of
-laid-all h e rows old table ft hold fits k ek inv = ext_get_or 0 table _ lengths each
+laid-all h e rows old table ft hold fits inv = ext_get_or 0 table _ lengths each
   where
     L : List ℕ
     L = left_table (market_of h e) (wishes_of h e) (struck_in h e rows)

@@ -11,17 +11,12 @@ use Rattle.meaning.specs.Market.{Market, Table, mutual?, placed}
 use Rattle.meaning.specs.Strikes.{Struck, left?}
 use Rattle.meaning.specs.Endings.{Outcome, none_room, left_of}
 use Rattle.rows.specs.Marks.{is_marked}
-use Rattle.rows.specs.Left.{first_place_left}
 use Rattle.ranks.specs.View.{n_of, m_of, wishes_of, market_of, FullTables}
 use Rattle.reasons.specs.Rows.{RowsHold}
 
 -- the pairs that rows say are struck: the mutual ones whose place is marked
 unfoldable pub struck_in : List ℕ → List ℕ → List ℕ → Struck
 struck_in h e rows i j = mutual? (market_of h e) i j & is_marked (get_or rows i 0) (place (wishes_of h e i) j - 1)
-
--- the depot left to trainee i: the one at the first place left, 0 where none is
-unfoldable pub left_in : List ℕ → List ℕ → List ℕ → ℕ → ℕ
-left_in h e rows i = get_or (wishes_of h e i) (first_place_left (get_or rows i 0)) 0
 
 -- the held pair is struck or isn't mutual
 unfoldable pub broken_in : List ℕ → List ℕ → List ℕ → ℕ → ℕ → Bool

@@ -22,7 +22,7 @@ ghost use Rattle.solver.specs.Going.{visit_by};
 ghost use Rattle.solver.specs.Sweeping.{Sweeping, SweptTo, record_of, reason_at};
 ghost use Rattle.solver.specs.Solved.{AllStruck, ending_in, table_by, SolvedAs};
 ghost use Rattle.solver.specs.Answer.{solve_of, given_by};
-ghost use Rattle.solver.specs.Ends.{struck_in, left_in, broken_in, broken_pair, room_of, left_by, Kept, kept-prop, Counted};
+ghost use Rattle.solver.specs.Ends.{struck_in, broken_pair, room_of, left_by, Kept, kept-prop, Counted};
 
 use meaning::{Ending, Fault, Reason, Refusal, Ruling, Strike};
 use ranks::Market;
@@ -120,23 +120,16 @@ struct Left<'a> {
 }
 
 impl<'a> Left<'a> {
-    // Whether the pair isn't left: struck, or not mutual.
-    fn is_gone(&self, i: usize, j: usize) -> bool
-        requires { In (n_of self.now.orders.market.heads.now) i }
-        ensures { result ≡ broken_in self.now.orders.market.heads.now self.now.orders.market.entries.now self.now.rows.now i j }
-    {
-        match ranks::place_on(self.orders.market.wishes(i), j) {
-            Some(p) => rows::marked(self.rows[i], p),
-            None => true,
-        }
-    }
-
     // Whether the order at k holds a pair that isn't left.
     fn breaks(&self, k: usize) -> bool
         requires { k < get_or self.now.orders.cells.now 0 0 }
         ensures { result ≡ broken? (market_of self.now.orders.market.heads.now self.now.orders.market.entries.now) (struck_in self.now.orders.market.heads.now self.now.orders.market.entries.now self.now.rows.now) (order_in self.now.orders.cells.now k) }
     {
-        self.orders.is_hold(k) && self.is_gone(self.orders.trainee(k), self.orders.depot(k))
+        let rows = Rows {
+            market: self.orders.market,
+            marks: self.rows,
+        };
+        self.orders.is_hold(k) && !rows.is_open(self.orders.trainee(k), self.orders.depot(k))
     }
 
     // The first held pair, in file order, that is struck or isn't mutual.
@@ -151,23 +144,16 @@ impl<'a> Left<'a> {
         None
     }
 
-    // The depot left to trainee i, 0 where none is, as the cell of a table has it.
-    fn left_to(&self, i: usize) -> u16
-        requires { In (n_of self.now.orders.market.heads.now) i }
-        ensures { result ≡ left_in self.now.orders.market.heads.now self.now.orders.market.entries.now self.now.rows.now i }
-    {
-        let p = rows::first_left(self.rows[i]);
-        self.orders.market.wishes(i).get(p).copied().unwrap_or(0)
-    }
-
     // Lays the left table over the front of a table.
     fn fill_left(&self, table: &mut [u16])
         requires { n_of self.now.orders.market.heads.now ≤ length table.old }
         ensures { table.new ≡ laid (left_table (market_of self.now.orders.market.heads.now self.now.orders.market.entries.now) (wishes_of self.now.orders.market.heads.now self.now.orders.market.entries.now) (struck_in self.now.orders.market.heads.now self.now.orders.market.entries.now self.now.rows.now)) table.old }
     {
-        for k in 0..self.orders.market.trainees() {
-            table[k] = self.left_to(k + 1);
-        }
+        let rows = Rows {
+            market: self.orders.market,
+            marks: self.rows,
+        };
+        rows.lay_left(table);
     }
 
     // The smallest trainee who has everything down to depot j struck, if the depot has room in the left table.
@@ -209,7 +195,7 @@ impl<'a> Left<'a> {
     }
 
     // The ending: a broken hold, else a pair of kind 2, else placed.
-    fn ending(&self) -> Ending
+    fn ending_of(&self) -> Ending
         ensures { result ≡ ending_in self.now.orders.market.heads.now self.now.orders.market.entries.now self.now.orders.cells.now self.now.rows.now }
     {
         if let Some((i, j)) = self.first_broken() {
@@ -268,7 +254,7 @@ pub fn solve_cells(orders: &Orders, table: &mut [u16], cells: &mut [u16]) -> Rul
         orders: *orders,
         rows: &rows,
     };
-    let ending = left.ending();
+    let ending = left.ending_of();
     left.lay_table(ending, table);
     Ruling {
         trainees: orders.market.trainees() as u16,

@@ -4,4 +4,4 @@ use Rattle.tables.proofs.Views.{tables-seen}
 use Rattle.solver.proofs.solve_cells.Goals as goal
 
 pub returns : goal.returns
-returns c = λ p F k w ruling q. solved-as _ _ _ _ _ _ F p.orders (tables-seen _ _ _ p F k w) c.strike_all-strikes.ensures ruling q _ _ _ _ c.trainees.ensures c.ending-ending.ensures c.lay_table.ensures
+returns c = λ p F k w ruling q. solved-as _ _ _ _ _ _ F p.orders (tables-seen _ _ _ p F k w) c.strike_all-strikes.ensures ruling q _ _ _ _ c.trainees.ensures c.ending_of-ending.ensures c.lay_table.ensures

@@ -1,6 +1,6 @@
 -- The searches are tried in the order of the endings.
 use Rattle.solver.proofs.Whole.{ends-broken, ends-room, ends-placed}
-use Rattle.solver.proofs.Left.ending.Goals as goal
+use Rattle.solver.proofs.Left.ending_of.Goals as goal
 
 pub returns-in-Some : goal.returns-in-Some
 returns-in-Some c = ends-broken _ _ _ _ _ _ c.in-Some.ensures
