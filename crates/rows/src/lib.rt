@@ -44,6 +44,7 @@ pub fn number_marked(row: u64) -> usize
 }
 
 // How many places are left.
+#[tactic(auto, unfolding(crate::specs::Left::number_left))]
 pub fn number_left(row: u64) -> usize
     ensures { result ≡ number_left row }
 {
