@@ -28,6 +28,10 @@ wrote_then V W = record { same = W.same ∙ V.same; size = W.size ∙ V.size; pu
 pub put_through : {p q : Pen} {x : List ℕ} → Wrote p q x → (out' : List ℕ) → (p.out.ghost_name ≡ q.out.ghost_name → out' ≡ q.out.now) → Put p.out.now out' p.at x q.at
 put_through {p} {q} {x} W out' f = subst (λ z. Put p.out.now z p.at x q.at) (sym (f (sym W.same))) W.put
 
+-- the front of what fits does
+pub room-front : (p : Pen) (x y : List ℕ) → Room p (x ++ y) → Room p x
+room-front p x y h = let l = length-append x y in omega arith
+
 -- after the front there is room for the rest
 pub room_next : {p q : Pen} {x : List ℕ} (y : List ℕ) → Wrote p q x → Room p (x ++ y) → Room q y
 room_next {p} {q} {x} y W h = let l = length-append x y in omega (arith, W.put.next, W.size)
