@@ -5,22 +5,27 @@ use mathlib.Core.Path.{◌≡◌, sym, ap, ap₂, ◌∙◌, subst}
 use mathlib.Core.Option.{Option}
 use mathlib.Core.List.{List, []}
 use native.Mathlib.Omega.{arith}
-use lib.ListN.{length, drop, set}
+use lib.ListN.{length, set}
 use lib.Seq.{sets}
 use lib.Dec.{lit≤}
+use Rattle.std.specs.Prelude.{Result, Ok, Err, MatchResult}
 use Rattle.meaning.specs.Lists.{weigh}
 use Rattle.meaning.specs.Placement.{Depot, Placement, size, depot_size, LegalList, LegalDepot}
 use Rattle.fields.specs.Reader.{got, refusal, lines}
+use Rattle.fields.specs.Leaves.{wrong_on}
+use Rattle.fields.specs.declared.Wrong.{Wrong}
+use Rattle.fields.specs.declared.Misread.{Misread}
 use Rattle.fields.proofs.Lines.{lines-back}
 use Rattle.tables.specs.Cells.{trainee_cells, depot_cells, list_cells, depot_list_cells, series_cells, joined, head_cells, entry_cells, order_cells}
 use Rattle.tables.proofs.Round.{head-count, entry-count, order-count}
 use Rattle.placement_text.specs.Writer.{write_trainee, write_depot}
 use Rattle.placement_text.specs.Reader.{MOST, trainee_line, depot_line, orders, head_fields, read_text, refused}
-use Rattle.placement_text.specs.Code.{Rows, HeadLine, AllPairs}
+use Rattle.placement_text.specs.declared.room.Sizes.{Sizes}
+use Rattle.placement_text.specs.Code.{Rows, HeadRead, head_of, AllPairs}
 use Rattle.placement_text.proofs.Sides.{trainee-back, depot-back}
 use Rattle.placement_text.proofs.Pairs.{orders-back}
 use Rattle.placement_text.proofs.Whole.{head-refused, trainees-refused, depots-refused, orders-refused, all-taken, heads-joined, entries-joined}
-use Rattle.placement_reader.specs.Code.{placement_of, Both, All, Somewhere}
+use Rattle.placement_reader.specs.Code.{placement_of, Both, refused_for, All}
 
 pub record Sized {A : Type 0} (weight : A → ℕ) (n : ℕ) (xs : List A) : Type 0 where
   pub count : length xs ≡ n
@@ -48,37 +53,38 @@ pairs-few n m l q O =
 
 -- ---- both sides
 
-module _ {s : List ℕ} {at n m : ℕ} (short : length s ≤ 65536) (H : HeadLine s n m at) where
-  pub sides-refused : {x l f : ℕ} → lines (trainee_line m) size n 1 0 [] (drop at s) ≡ refusal x l f → read_text s ≡ refused x l f
-  sides-refused e = trainees-refused s short H.goes e
+module _ (n m : ℕ) (q : List ℕ) where
+  pub sides-refused : {x l f : ℕ} → lines (trainee_line m) size n 1 0 [] q ≡ refusal x l f
+      → (s : List ℕ) → length s ≤ 65536 → head_fields s ≡ got (head_of 1 n m) q → read_text s ≡ refused x l f
+  sides-refused e s short H = trainees-refused s short H e
 
-  module _ (h : List ℕ) {h₁ t t₁ : List ℕ} {base p : ℕ}
-      (T : Rows size trainee_cells list_cells s (lines (trainee_line m) size n 1 0 [] (drop at s)) 3 0 (set (set (set h 0 1) 1 n) 2 m) h₁ t t₁ base p) where
+  module _ (h : List ℕ) {h₁ t t₁ : List ℕ} {base : ℕ} {r : List ℕ}
+      (T : Rows size trainee_cells list_cells (lines (trainee_line m) size n 1 0 [] q) 3 0 (set (set (set h 0 1) 1 n) 2 m) h₁ t t₁ base r) where
     pub base-few : base ≤ 4096
-    base-few = let z = trainees-sized n m (drop at s) T.goes in omega (arith, z.few, T.size)
+    base-few = let z = trainees-sized n m q T.goes in omega (arith, z.few, T.size)
 
-    pub sides-refused-below : {x l f : ℕ} → lines (depot_line n) depot_size m 1 0 [] (drop p s) ≡ refusal x l f → read_text s ≡ refused x l f
-    sides-refused-below e = depots-refused s short H.goes T.goes e
+    pub sides-refused-below : {x l f : ℕ} → lines (depot_line n) depot_size m 1 0 [] r ≡ refusal x l f
+        → (s : List ℕ) → length s ≤ 65536 → head_fields s ≡ got (head_of 1 n m) q → read_text s ≡ refused x l f
+    sides-refused-below e s short H = depots-refused s short H T.goes e
 
-    module _ {h₂ t₂ : List ℕ} {total next : ℕ}
-        (D : Rows depot_size depot_cells depot_list_cells s (lines (depot_line n) depot_size m 1 0 [] (drop p s)) (3 + 2 * n) base h₁ h₂ t₁ t₂ total next) where
+    module _ {h₂ t₂ : List ℕ} {total : ℕ} {r' : List ℕ}
+        (D : Rows depot_size depot_cells depot_list_cells (lines (depot_line n) depot_size m 1 0 [] r) (3 + 2 * n) base h₁ h₂ t₁ t₂ total r') where
       pub total-few : total ≤ 4096
-      total-few = let z = depots-sized n m (drop p s) D.goes in omega (arith, z.few, D.size)
+      total-few = let z = depots-sized n m r D.goes in omega (arith, z.few, D.size)
 
-      pub both-sides : Both s at n m h h₂ t t₂ (base + total) next
+      pub both-sides : Both n m q h h₂ t t₂ (base + total) r'
       both-sides =
           let ts : List (Option (List ℕ)) = T.them in
           let ds : List Depot = D.them in
           let P : Placement = placement_of ts ds [] in
-          let x = trainees-sized n m (drop at s) T.goes in
-          let y = depots-sized n m (drop p s) D.goes in
+          let x = trainees-sized n m q T.goes in
+          let y = depots-sized n m r D.goes in
           record {
             ts = ts;
             ds = ds;
-            between = drop p s;
+            between = r;
             trainees = T.goes;
             depots = D.goes;
-            within = D.within;
             heads =
                 D.heads
                 ∙ ap₂ (λ z b. sets z (3 + 2 * n) (series_cells depot_size depot_cells b ds)) T.heads T.size
@@ -92,29 +98,33 @@ module _ {s : List ℕ} {at n m : ℕ} (short : length s ≤ 65536) (H : HeadLin
 
 -- ---- the whole text
 
-pub at_head : {s : List ℕ} {x f : ℕ} → length s ≤ 65536 → head_fields s ≡ refusal x 0 f → Somewhere s x 1
-at_head {s} {x} {f} short e = record { field = f; goes = head-refused s short e }
+-- the first line was read, or the text is refused on it
+abbrev pub HeadTaken : List ℕ → List ℕ → Result Sizes Misread → Type 0
+HeadTaken s r (Ok z) = head_fields s ≡ got (head_of 1 z.trainees z.depots) r
+HeadTaken s r (Err x) = length s ≤ 65536 → read_text s ≡ refused_for x
 
-pub somewhere : {s : List ℕ} {x l f : ℕ} → read_text s ≡ refused x l f → Somewhere s x l
-somewhere {s} {x} {l} {f} e = record { field = f; goes = e }
+pub head-taken : (s r : List ℕ) (x : Result Sizes Wrong) (y : Result Sizes Misread)
+    → MatchResult x (λ v. y ≡ Ok v) (λ w. y ≡ Err (wrong_on w 1)) → HeadRead s r x → HeadTaken s r y
+head-taken s r (Ok z) y e R = rw e R
+head-taken s r (Err w) y e R = rw e (λ short. head-refused s short R)
 
-module _ {s : List ℕ} {at n m : ℕ} (short : length s ≤ 65536) (H : HeadLine s n m at)
-    {h h' t t' : List ℕ} {total next : ℕ} (B : Both s at n m h h' t t' total next) where
-  pub at-orders : {x l f : ℕ} → orders 1024 n m (n + m + 2) [] (drop next s) ≡ refusal x l f → Somewhere s x l
-  at-orders e = somewhere (orders-refused s short H.goes B.trainees B.depots e)
+module _ (s : List ℕ) {n m : ℕ} {q : List ℕ} (short : length s ≤ 65536) (H : head_fields s ≡ got (head_of 1 n m) q)
+    {h h' t t' : List ℕ} {total : ℕ} {r : List ℕ} (B : Both n m q h h' t t' total r) where
+  pub at-orders : {x l f : ℕ} → orders 1024 n m (n + m + 2) [] r ≡ refusal x l f → read_text s ≡ refused x l f
+  at-orders e = orders-refused s short H B.trainees B.depots e
 
-  pub whole-text : {o o' : List ℕ} {count : ℕ} → AllPairs (orders 1024 n m (n + m + 2) [] (drop next s)) o o' count
-      → All s h h' t t' o o' (3 + 2 * (n + m) + m) total (1 + 3 * count)
+  pub whole-text : {o o' : List ℕ} {count : ℕ} → AllPairs (orders 1024 n m (n + m + 2) [] r) o o' count
+      → All s h h' t t' o o' (record { heads = 3 + 2 * (n + m) + m; entries = total; orders = 1 + 3 * count })
   unfolding head_cells entry_cells
   whole-text O =
-      let x = trainees-sized n m (drop at s) B.trainees in
+      let x = trainees-sized n m q B.trainees in
       let y = depots-sized n m B.between B.depots in
       let P : Placement = placement_of B.ts B.ds O.them in
       let c : length (head_cells P) ≡ 3 + 2 * length B.ts + 3 * length B.ds = head-count P in
       let d : length (order_cells P) ≡ 1 + 3 * length O.them = order-count O.them in
       record {
         it = P;
-        goes = all-taken s short H.goes B.trainees B.depots O.goes;
+        goes = all-taken s short H B.trainees B.depots O.goes;
         heads = B.heads;
         entries = B.stored;
         orders = O.stored;

@@ -6,7 +6,7 @@ use mathlib.Core.Bool.{true, false}
 use mathlib.Core.List.{List}
 use native.Mathlib.Omega.{arith}
 use lib.ListN.{length, take}
-use Rattle.meaning.specs.Answers.{SHORT_PART, LONG_TEXT, refusal}
+use Rattle.meaning.specs.Answers.{SHORT_PART, LONG_TEXT, fault_number, refusal}
 use Rattle.meaning.specs.Placement.{Placement}
 use Rattle.meaning.specs.declared.Reading.{Reading}
 use Rattle.tables.specs.Cells.{head_cells, entry_cells, order_cells, laid}
@@ -16,36 +16,39 @@ use Rattle.placement_text.specs.Reader.{read_text}
 use Rattle.placement_text.proofs.Round.{read_back}
 use Rattle.placement_text.proofs.Whole.{read-long}
 use Rattle.placement_reader.specs.Reading.{reads, reading, reading_of}
-use Rattle.placement_reader.specs.Code.{All, Somewhere}
+use Rattle.fields.specs.declared.Misread.{Misread}
+use Rattle.placement_reader.specs.declared.Used.{Used}
+use Rattle.placement_reader.specs.Code.{refused_for, All}
 use Rattle.placement_reader.proofs.Fronts.{front}
 
 -- ---- a text that is not too long, with tables of the full sizes
 
-pub answer-refused : (s h e o : List ℕ) {x l : ℕ} → Somewhere s x l → reads (Reading.Refused (refusal x l)) h e o ≡ reading (read_text s) h e o
+pub answer-refused : (s h e o : List ℕ) (x : Misread) → read_text s ≡ refused_for x
+    → reads (Reading.Refused (refusal (fault_number x.fault) x.line)) h e o ≡ reading (read_text s) h e o
 unfolding reading
-answer-refused s h e o w = sym (ap (λ r. reading r h e o) w.goes)
+answer-refused s h e o x w = sym (ap (λ r. reading r h e o) w)
 
 -- the used cells fit in tables of the full sizes
-pub record Used (a b c : ℕ) : Type 0 where
-  pub heads : a ≤ 707
-  pub entries : b ≤ 8192
-  pub orders : c ≤ 3073
+pub record Fits (x : Used) : Type 0 where
+  pub heads : x.heads ≤ 707
+  pub entries : x.entries ≤ 8192
+  pub orders : x.orders ≤ 3073
 
-module _ {s h h' t t' o o' : List ℕ} {a b c : ℕ} (w : All s h h' t t' o o' a b c) where
-  pub used : Used a b c
-  used =
+module _ {s h h' t t' o o' : List ℕ} {used : Used} (w : All s h h' t t' o o' used) where
+  pub used_fits : Fits used
+  used_fits =
       let f = cells_fit w.it (read_back s w.it w.goes).0 in
       record { heads = omega (arith, f.heads, w.heads_used); entries = omega (arith, f.entries, w.entries_used); orders = omega (arith, f.orders, w.orders_used) }
 
   pub answer-taken : (x y z : List ℕ) → length h ≡ 707 → length t ≡ 8192 → length o ≡ 3073
-      → reads Reading.Taken (laid (take a h') x) (laid (take b t') y) (laid (take c o') z) ≡ reading (read_text s) x y z
+      → reads Reading.Taken (laid (take used.heads h') x) (laid (take used.entries t') y) (laid (take used.orders o') z) ≡ reading (read_text s) x y z
   unfolding reading
   answer-taken x y z lh lt lo =
       let p : Placement = w.it in
       let f = cells_fit p (read_back s p w.goes).0 in
-      let hs : take a h' ≡ head_cells p = ap (take a) w.heads ∙ front h (head_cells p) a (omega (arith, f.heads)) w.heads_used in
-      let es : take b t' ≡ entry_cells p = ap (take b) w.entries ∙ front t (entry_cells p) b (omega (arith, f.entries)) w.entries_used in
-      let os : take c o' ≡ order_cells p = ap (take c) w.orders ∙ front o (order_cells p) c (omega (arith, f.orders)) w.orders_used in
+      let hs : take used.heads h' ≡ head_cells p = ap (take used.heads) w.heads ∙ front h (head_cells p) used.heads (omega (arith, f.heads)) w.heads_used in
+      let es : take used.entries t' ≡ entry_cells p = ap (take used.entries) w.entries ∙ front t (entry_cells p) used.entries (omega (arith, f.entries)) w.entries_used in
+      let os : take used.orders o' ≡ order_cells p = ap (take used.orders) w.orders ∙ front o (order_cells p) used.orders (omega (arith, f.orders)) w.orders_used in
       (λ i. reads Reading.Taken (laid (hs i) x) (laid (es i) y) (laid (os i) z)) ∙ sym (ap (λ r. reading r x y z) w.goes)
 
 -- ---- any text and any tables

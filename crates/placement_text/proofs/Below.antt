@@ -2,124 +2,173 @@
 -- Assumes nothing.
 use Prim.Native.Nat.{ℕ, zero, suc, ◌+◌, ◌-◌, ◌*◌, ◌≤◌, ◌<◌}
 use mathlib.Core.Path.{◌≡◌, refl, sym, ap, ap₂, ◌∙◌}
-use mathlib.Core.Bool.{true, false}
+use mathlib.Core.Logic.{⊎_elim}
+use mathlib.Core.Bool.{true, false, true≢false}
 use mathlib.Core.List.{List, [], ◌∷◌, ◌++◌}
 use native.Mathlib.Omega.{arith}
 use native.Mathlib.Nat.{add-zero}
-use lib.ListN.{length, drop, set, drop_of_length-le, length-append}
-use lib.Seq.{slice, sets, length-sets, set_comm}
+use lib.ListN.{length, set, length-append}
+use lib.Seq.{sets, set_comm}
+use Rattle.std.specs.Prelude.{Option, Some, Result, Ok, Err, MatchResult, is_ok, OnErr}
 use Rattle.meaning.specs.Placement.{Kind, held, barred, Order}
-use Rattle.fields.specs.Bytes.{word_of, same, word_end}
-use Rattle.fields.specs.Reader.{got, refusal, keyword, line_end, number, running, at_end}
-use Rattle.fields.proofs.Positions.{byte-drop, word_slice, word-within, rest-drop}
+use Rattle.fields.specs.Bytes.{word_of, rest_of, same, word_end}
+use Rattle.fields.specs.declared.Wrong.{Wrong}
+use Rattle.fields.specs.Leaves.{wrong_on, StepRead}
+use Rattle.fields.proofs.Steps.{refusal-not-got, unless-back, unless-there}
+use Rattle.meaning.proofs.Booleans.{true-or-false}
+use Rattle.fields.specs.Reader.{got, refusal, unless, first, keyword, line_end, number, running, at_end}
 use Rattle.fields.proofs.Puts.{sets-append}
 use Rattle.tables.proofs.Series.{series-cells}
 use Rattle.tables.proofs.One.{order-wide}
 use Rattle.placement_text.specs.Words.{word_placement, word_F, word_X}
-use Rattle.placement_text.specs.Reader.{Opening, order, ending, other, opening_of, order_fields, end_fields, finish, orders, edition, sizes, head_fields}
+use Rattle.placement_text.specs.Reader as reader
+use Rattle.placement_text.specs.Reader.{opening_of, order_fields, end_fields, finish, orders, edition, sizes, head_fields}
 use Rattle.tables.specs.Cells.{kind_cell, one_order, weightless, series_cells, cells_of_orders}
-use Rattle.placement_text.specs.Code.{Opened, PairOpened, pair_of, OneMore, AllPairs, head_of, SizesRead, HeadRead}
-use Rattle.placement_text.specs.declared.HeadRow.{HeadRow}
-use Rattle.placement_text.specs.declared.HeadRow.TheVariants.{To as ToHead, Refused as HeadRefused}
+use Rattle.placement_text.specs.Code.{Opened, PairRead, OrderRead, kind_of, kind_number, pair_of, order_of, OneMore, AllPairs, head_of, SizesRead, HeadRead}
+use Rattle.placement_text.specs.declared.Pair.{Pair}
+use Rattle.placement_text.specs.declared.Kind as declared
+use Rattle.placement_text.specs.declared.Kind.TheVariants.{Held, Barred}
+use Rattle.fields.specs.declared.Misread.{Misread}
+use Rattle.placement_text.specs.declared.room.Sizes.{Sizes}
 use Rattle.placement_text.proofs.Turns.{series-end, three-cells}
 
 -- ---- the word
 
-module _ (s : List ℕ) (at to : ℕ) (h : at ≤ length s) (t : to ≡ at + length (word_of (drop at s))) where
-  opened : (w : Opening) → opening_of (slice at to s) ≡ w → Opened s at w to
-  opened w e = record { opens = ap opening_of (word_slice s at to h t) ∙ e; rest = rest-drop s at to t; within = omega (arith, word-within s at h) }
+-- what was read of a keyword
+pub keyword-there : (w q r : List ℕ) → keyword w q ≡ got tt r → (same (word_of q) w ≡ true) × (rest_of q ≡ r)
+unfolding keyword first
+keyword-there w q r e = unless-back 3 1 (same (word_of q) w) (rest_of q) e
 
-  pub opens-held : same (slice at to s) word_F ≡ true → PairOpened s at 0 to
-  unfolding opening_of kind_cell
-  opens-held f = record { kind = held; cell_of = refl; opened = opened (order held) (rw (f, opening_of)) }
+pub keyword_gone : (w q : List ℕ) {x f : ℕ} → keyword w q ≡ refusal x 0 f → same (word_of q) w ≡ false
+unfolding keyword first
+keyword_gone w q e = ⊎_elim
+    (λ (t : same (word_of q) w ≡ true). absurd (refusal-not-got (sym e ∙ unless-there 3 1 (same (word_of q) w) (rest_of q) t)))
+    (λ f. f)
+    (true-or-false (same (word_of q) w))
 
-  module _ (f : same (slice at to s) word_F ≡ false) where
-    pub opens-barred : same (slice at to s) word_X ≡ true → PairOpened s at 1 to
-    unfolding opening_of kind_cell
-    opens-barred x = record { kind = barred; cell_of = refl; opened = opened (order barred) (rw (f, x, opening_of)) }
+-- another word refuses in the first field
+pub keyword-wrong : (w q : List ℕ) {x f : ℕ} → keyword w q ≡ refusal x 0 f → (x ≡ 3) × (f ≡ 1)
+unfolding keyword first unless
+keyword-wrong w q {x} {f} e = elim (same (word_of q) w) as (λ b. unless 3 1 b (rest_of q) ≡ refusal x 0 f → (x ≡ 3) × (f ≡ 1)) [
+  | true ↦ (λ h. absurd (refusal-not-got (sym h)))
+  | false ↦ (λ h. (cc, cc))
+] e
 
-    module _ (x : same (slice at to s) word_X ≡ false) where
-      pub opens-end : same (slice at to s) word_end ≡ true → Opened s at ending to
-      unfolding opening_of
-      opens-end e = opened ending (rw (f, x, e, opening_of))
+-- another word stands there, and nothing was read
+pub record Other (w q r : List ℕ) : Type 0 where
+  pub differs : same (word_of q) w ≡ false
+  pub kept : r ≡ q
 
-      pub opens-other : same (slice at to s) word_end ≡ false → opening_of (word_of (drop at s)) ≡ other
-      unfolding opening_of
-      opens-other e = ap opening_of (word_slice s at to h t) ∙ rw (f, x, e, opening_of)
+pub other-word : (w q r : List ℕ) (x : Result (Unit {0}) Wrong) → is_ok x ≡ false → StepRead (keyword w q) r x → OnErr x (r ≡ q) → Other w q r
+other-word w q r (Ok _) t h g = absurd (true≢false t)
+other-word w q r (Err y) t h g = record { differs = keyword_gone w q h; kept = g }
+
+read-word : (w q r : List ℕ) (x : Result (Unit {0}) Wrong) → is_ok x ≡ true → StepRead (keyword w q) r x → keyword w q ≡ got tt r
+read-word w q r (Ok _) t h = h
+read-word w q r (Err y) t h = absurd (true≢false (sym t))
+
+module _ (q r : List ℕ) (x : Result (Unit {0}) Wrong) where
+  pub opens-held : is_ok x ≡ true → StepRead (keyword word_F q) r x → Opened q (reader.order held) r
+  unfolding opening_of
+  opens-held t h = let k = keyword-there word_F q r (read-word word_F q r x t h) in record { opens = rw (k.0, opening_of); rest = k.1 }
+
+  pub opens-barred : {p : List ℕ} → Other word_F q p → is_ok x ≡ true → StepRead (keyword word_X p) r x → Opened q (reader.order barred) r
+  unfolding opening_of
+  opens-barred F t h =
+      let k = keyword-there word_X q r (rw F.kept at (read-word word_X _ r x t h)) in
+      record { opens = rw (F.differs, k.0, opening_of); rest = k.1 }
+
+module _ {q p o : List ℕ} (F : Other word_F q p) (X : Other word_X p o) where
+  same-place : o ≡ q
+  same-place = X.kept ∙ F.kept
+
+  not-barred : same (word_of q) word_X ≡ false
+  not-barred = rw F.kept at X.differs
+
+  pub opens-end : {r : List ℕ} → keyword word_end o ≡ got tt r → Opened q reader.ending r
+  unfolding opening_of
+  opens-end {r} e =
+      let k = keyword-there word_end q r (rw same-place at e) in
+      record { opens = rw (F.differs, not-barred, k.0, opening_of); rest = k.1 }
 
 -- ---- the fields of a pair, and the end
 
 module _ (n m : ℕ) (b : Kind) (q : List ℕ) where
-  pub pair-no-trainee : {x : ℕ} → number 2 1 n q ≡ refusal x 0 2 → order_fields n m b q ≡ refusal x 0 2
+  pub pair-no-trainee : {x f : ℕ} → number 2 1 n q ≡ refusal x 0 f → order_fields n m b q ≡ refusal x 0 f
   unfolding order_fields
   pair-no-trainee e = rw e
 
   module _ {i : ℕ} {r : List ℕ} (e : number 2 1 n q ≡ got i r) where
-    pub pair-no-depot : {x : ℕ} → number 3 1 m r ≡ refusal x 0 3 → order_fields n m b q ≡ refusal x 0 3
+    pub pair-no-depot : {x f : ℕ} → number 3 1 m r ≡ refusal x 0 f → order_fields n m b q ≡ refusal x 0 f
     unfolding order_fields
-    pair-no-depot f = rw e (rw f)
+    pair-no-depot g = rw e (rw g)
 
-    module _ {j : ℕ} {r' : List ℕ} (f : number 3 1 m r ≡ got j r') where
-      pub pair-no-end : line_end 4 r' ≡ refusal 3 0 4 → order_fields n m b q ≡ refusal 3 0 4
+    module _ {j : ℕ} {r' : List ℕ} (g : number 3 1 m r ≡ got j r') where
+      pub pair-no-end : {x f : ℕ} → line_end 4 r' ≡ refusal x 0 f → order_fields n m b q ≡ refusal x 0 f
       unfolding order_fields
-      pair-no-end g = rw e (rw f (rw g))
+      pair-no-end h = rw e (rw g (rw h))
 
       pub pair-whole : {r'' : List ℕ} → line_end 4 r' ≡ got tt r'' → order_fields n m b q ≡ got (pair_of b i j) r''
       unfolding order_fields
-      pair-whole g = rw e (rw f (rw g))
+      pair-whole h = rw e (rw g (rw h))
 
 module _ (l : ℕ) (os : List Order) (q : List ℕ) where
-  pub finish-no-end : line_end 2 q ≡ refusal 3 0 2 → finish l os q ≡ refusal 3 l 2
+  pub finish-no-end : {x f : ℕ} → line_end 2 q ≡ refusal x 0 f → finish l os q ≡ refusal x l f
   unfolding finish end_fields
   finish-no-end e = rw e
 
-  module _ (s : List ℕ) (p : ℕ) (e : line_end 2 q ≡ got tt (drop p s)) where
-    pub finish-more : p < length s → finish l os q ≡ refusal 3 (l + 1) 1
-    unfolding finish end_fields at_end
-    finish-more h = rw e (rw (byte-drop s p h))
+  pub finish-more : (r : List ℕ) → line_end 2 q ≡ got tt r → (length r ≡ 0 → ⊥) → finish l os q ≡ refusal 3 (l + 1) 1
+  unfolding finish end_fields at_end
+  finish-more [] e h = absurd (h refl)
+  finish-more (b ∷ r) e h = rw e
 
-    pub finish-done : length s ≤ p → finish l os q ≡ got os []
-    unfolding finish end_fields at_end
-    finish-done h = rw e (rw (drop_of_length-le s h))
+  pub finish-done : (r : List ℕ) → line_end 2 q ≡ got tt r → length r ≡ 0 → finish l os q ≡ got os []
+  unfolding finish end_fields at_end
+  finish-done [] e h = rw e
+  finish-done (b ∷ r) e h = absurd (omega arith)
 
 -- ---- one line
 
-module _ (s : List ℕ) (at n m l : ℕ) where
-  pub orders-other : (k : ℕ) (os : List Order) → opening_of (word_of (drop at s)) ≡ other → orders k n m l os (drop at s) ≡ refusal 3 l 1
+module _ (n m l : ℕ) (q : List ℕ) where
+  pub orders-other : (k : ℕ) (os : List Order) → opening_of (word_of q) ≡ reader.other → orders k n m l os q ≡ refusal 3 l 1
   unfolding orders
   orders-other zero os e = rw (e, orders)
   orders-other (suc k) os e = rw (e, orders)
 
-  pub orders-end : {next : ℕ} (k : ℕ) (os : List Order) → Opened s at ending next → orders k n m l os (drop at s) ≡ finish l os (drop next s)
+  pub orders-end : {r : List ℕ} (k : ℕ) (os : List Order) → Opened q reader.ending r → orders k n m l os q ≡ finish l os r
   unfolding orders
   orders-end zero os O = rw (O.opens, orders) (ap (finish l os) O.rest)
   orders-end (suc k) os O = rw (O.opens, orders) (ap (finish l os) O.rest)
 
-  pub orders-limit : {b : Kind} {next : ℕ} (c : ℕ) (os : List Order) → Opened s at (order b) next → c ≡ 1024 → orders (1024 - c) n m l os (drop at s) ≡ refusal 6 l 1
+  pub orders-limit : {b : Kind} {r : List ℕ} (c : ℕ) (os : List Order) → Opened q (reader.order b) r → c ≡ 1024 → orders (1024 - c) n m l os q ≡ refusal 6 l 1
   unfolding orders
   orders-limit c os O e = let k : 1024 - c ≡ zero = omega arith in rw k (rw (O.opens, orders))
 
-  module _ (c : ℕ) (few : c < 1024) {b : Kind} {next : ℕ} (O : Opened s at (order b) next) where
-    pub orders-refused : {x f : ℕ} (os : List Order) → order_fields n m b (drop next s) ≡ refusal x 0 f → orders (1024 - c) n m l os (drop at s) ≡ refusal x l f
+  module _ (c : ℕ) (few : c < 1024) {b : Kind} {r : List ℕ} (O : Opened q (reader.order b) r) where
+    pub orders-refused : {x f : ℕ} (os : List Order) → order_fields n m b r ≡ refusal x 0 f → orders (1024 - c) n m l os q ≡ refusal x l f
     unfolding orders
     orders-refused os e = let k : 1024 - c ≡ suc (1024 - (c + 1)) = omega arith in rw k (rw (O.opens, orders) (rw (O.rest, e)))
 
-    pub orders-goes : {o : Order} {r : List ℕ} (os : List Order) → order_fields n m b (drop next s) ≡ got o r
-        → orders (1024 - c) n m l os (drop at s) ≡ orders (1024 - (c + 1)) n m (l + 1) (os ++ o ∷ []) r
+    pub orders-goes : {o : Order} {r' : List ℕ} (os : List Order) → order_fields n m b r ≡ got o r'
+        → orders (1024 - c) n m l os q ≡ orders (1024 - (c + 1)) n m (l + 1) (os ++ o ∷ []) r'
     unfolding orders
     orders-goes os e = let k : 1024 - c ≡ suc (1024 - (c + 1)) = omega arith in rw k (rw (O.opens, orders) (rw (O.rest, e)))
 
-pub one_more : (s : List ℕ) (at n m l c : ℕ) {kind i j p next : ℕ} → c < 1024 → PairOpened s at kind p
-    → ((b : Kind) → order_fields n m b (drop p s) ≡ got (pair_of b i j) (drop next s)) → next ≤ length s → OneMore s at n m l c kind i j next
-unfolding one_order
-one_more s at n m l c {i = i} {j = j} few O e w =
-    record {
-      it = pair_of O.kind i j;
-      cells = ap (λ z. z ∷ i ∷ j ∷ []) O.cell_of;
-      few = few;
-      within = w;
-      goes = λ os. orders-goes s at n m l c few O.opened os (e O.kind);
-    }
+-- the line l opens with none of the words
+pub opens-other : (l : ℕ) {q p o : List ℕ} → Other word_F q p → Other word_X p o → {x f : ℕ} → keyword word_end o ≡ refusal x 0 f
+    → (n m k : ℕ) (os : List Order) → orders k n m l os q ≡ refusal x l f
+unfolding opening_of
+opens-other l {q} F X {x} {f} e n m k os =
+    let h : keyword word_end q ≡ refusal x 0 f = rw (same-place F X) at e in
+    let w = keyword-wrong word_end q h in
+    let o : opening_of (word_of q) ≡ reader.other = rw (F.differs, not-barred F X, keyword_gone word_end q h, opening_of) in
+    orders-other n m l q k os o ∙ ap₂ (λ y z. refusal y l z) (sym w.0) (sym w.1)
+
+-- a pair's line
+pub pair-line : (n m l c : ℕ) (q p r : List ℕ) (b : declared.Kind) (x : Result Pair Wrong) (y : Result (Option Pair) Misread) → c < 1024 → Opened q (reader.order (kind_of b)) p
+    → MatchResult x (λ v. y ≡ Ok (Some v)) (λ w. y ≡ Err (wrong_on w l)) → PairRead n m b p r x → OrderRead n m l c q r y
+pair-line n m l c q p r b (Ok v) y few O e R = rw e (record { few = few; goes = λ os. orders-goes n m l q c few O os R })
+pair-line n m l c q p r b (Err w) y few O e R = rw e (λ os. orders-refused n m l q c few O os R)
 
 -- ---- the loop over the pairs
 
@@ -128,28 +177,24 @@ set_before [] t i j v h = refl
 set_before (x ∷ xs) t i j v h =
     set_before xs (set t i x) (suc i) j v (omega arith) ∙ ap (λ z. sets z (suc i) xs) (set_comm t i j x v (λ e. omega arith))
 
--- after c pairs
-pub record PairsTurn (s : List ℕ) (at n m l : ℕ) (o₀ o : List ℕ) (c p : ℕ) : Type 0 where
+-- after c pairs, r is left
+pub record PairsTurn (n m l : ℕ) (q o₀ o : List ℕ) (c : ℕ) (r : List ℕ) : Type 0 where
   pub them : List Order
   pub many : length them ≡ c
   pub few : c ≤ 1024
-  pub within : p ≤ length s
   pub stored : o ≡ sets o₀ 1 (series_cells weightless one_order 0 them)
-  pub goes : orders 1024 n m l [] (drop at s) ≡ orders (1024 - c) n m (l + c) them (drop p s)
+  pub goes : orders 1024 n m l [] q ≡ orders (1024 - c) n m (l + c) them r
 
-pub pairs_start : (s : List ℕ) (at n m l : ℕ) (o : List ℕ) → at ≤ length s → PairsTurn s at n m l o o 0 at
+pub pairs_start : (n m l : ℕ) (q o : List ℕ) → PairsTurn n m l q o o 0 q
 unfolding series_cells
-pairs_start s at n m l o w =
-    record { them = []; many = refl; few = omega arith; within = w; stored = refl; goes = rw add-zero }
+pairs_start n m l q o = record { them = []; many = refl; few = omega arith; stored = refl; goes = rw add-zero }
 
-module _ {s : List ℕ} {at n m l : ℕ} {o₀ o : List ℕ} {c p : ℕ} (T : PairsTurn s at n m l o₀ o c p) where
-  pub pairs-length : length o ≡ length o₀
-  pairs-length = ap length T.stored ∙ length-sets o₀ 1 (series_cells weightless one_order 0 T.them)
+pair-cells : (p : Pair) → kind_number p.kind ∷ p.trainee ∷ p.depot ∷ [] ≡ one_order 0 (order_of p)
+unfolding one_order kind_cell
+pair-cells p = elim p.kind as (λ k. kind_number k ∷ p.trainee ∷ p.depot ∷ [] ≡ one_order 0 (pair_of (kind_of k) p.trainee p.depot)) [ Held ↦ refl | Barred ↦ refl ]
 
-  pub pairs-refused : {x k f : ℕ} → ((os : List Order) → orders (1024 - c) n m (l + c) os (drop p s) ≡ refusal x k f) → orders 1024 n m l [] (drop at s) ≡ refusal x k f
-  pairs-refused e = T.goes ∙ e T.them
-
-  pub pairs-done : ((os : List Order) → orders (1024 - c) n m (l + c) os (drop p s) ≡ got os []) → AllPairs (orders 1024 n m l [] (drop at s)) o₀ (set o 0 c) c
+module _ {n m l : ℕ} {q o₀ o : List ℕ} {c : ℕ} {r : List ℕ} (T : PairsTurn n m l q o₀ o c r) where
+  pub pairs-done : ((os : List Order) → orders (1024 - c) n m (l + c) os r ≡ got os []) → AllPairs (orders 1024 n m l [] q) o₀ (set o 0 c) c
   unfolding cells_of_orders
   pairs-done e =
       record {
@@ -162,44 +207,44 @@ module _ {s : List ℕ} {at n m l : ℕ} {o₀ o : List ℕ} {c p : ℕ} (T : Pa
             ∙ ap (λ z. sets (set o₀ 0 z) 1 (series_cells weightless one_order 0 T.them)) (sym T.many);
       }
 
-  pub pairs-on : {kind i j next : ℕ} (q : ℕ) → q ≡ 1 + 3 * c → OneMore s p n m (l + c) c kind i j next
-      → PairsTurn s at n m l o₀ (set (set (set o q kind) (q + 1) i) (q + 2) j) (c + 1) next
+  pub pairs-on : {p : Pair} {r' : List ℕ} → OneMore n m (l + c) c r p r'
+      → PairsTurn n m l q o₀ (set (set (set o (1 + 3 * c) (kind_number p.kind)) (1 + 3 * c + 1) p.trainee) (1 + 3 * c + 2) p.depot) (c + 1) r'
   unfolding one_order
-  pairs-on {kind} {i} {j} {next} q e M =
+  pairs-on {p} {r'} M =
       record {
-        them = T.them ++ M.it ∷ [];
-        many = length-append T.them (M.it ∷ []) ∙ omega (arith, T.many);
+        them = T.them ++ order_of p ∷ [];
+        many = length-append T.them (order_of p ∷ []) ∙ omega (arith, T.many);
         few = omega (arith, M.few);
-        within = M.within;
         stored = cs;
-        goes = T.goes ∙ M.goes T.them ∙ ap (λ z. orders (1024 - (c + 1)) n m z (T.them ++ M.it ∷ []) (drop next s)) (omega arith);
+        goes = T.goes ∙ M.goes T.them ∙ ap (λ z. orders (1024 - (c + 1)) n m z (T.them ++ order_of p ∷ []) r') (omega arith);
       }
     where
-      start : 1 + length (series_cells weightless one_order 0 T.them) ≡ q
-      start = ap (λ z. 1 + z) (series-cells weightless 3 one_order order-wide 0 T.them ∙ ap (λ z. 3 * z) T.many) ∙ sym e
+      start : 1 + length (series_cells weightless one_order 0 T.them) ≡ 1 + 3 * c
+      start = ap (λ z. 1 + z) (series-cells weightless 3 one_order order-wide 0 T.them ∙ ap (λ z. 3 * z) T.many)
 
-      cs : set (set (set o q kind) (q + 1) i) (q + 2) j ≡ sets o₀ 1 (series_cells weightless one_order 0 (T.them ++ M.it ∷ []))
+      cs : set (set (set o (1 + 3 * c) (kind_number p.kind)) (1 + 3 * c + 1) p.trainee) (1 + 3 * c + 2) p.depot
+          ≡ sets o₀ 1 (series_cells weightless one_order 0 (T.them ++ order_of p ∷ []))
       cs =
-          three-cells o q kind i j
-          ∙ ap (sets o q) M.cells
-          ∙ ap₂ (λ z k. sets z k (one_order 0 M.it)) T.stored (sym start)
-          ∙ sym (sets-append o₀ 1 (series_cells weightless one_order 0 T.them) (one_order 0 M.it))
-          ∙ ap (sets o₀ 1) (sym (series-end weightless one_order 0 T.them M.it))
+          three-cells o (1 + 3 * c) (kind_number p.kind) p.trainee p.depot
+          ∙ ap (sets o (1 + 3 * c)) (pair-cells p)
+          ∙ ap₂ (λ z k. sets z k (one_order 0 (order_of p))) T.stored (sym start)
+          ∙ sym (sets-append o₀ 1 (series_cells weightless one_order 0 T.them) (one_order 0 (order_of p)))
+          ∙ ap (sets o₀ 1) (sym (series-end weightless one_order 0 T.them (order_of p)))
 
 -- ---- the first line
 
 module _ (e : ℕ) (q : List ℕ) where
-  pub sizes-no-trainees : {x : ℕ} → number 3 0 256 q ≡ refusal x 0 3 → sizes e q ≡ refusal x 0 3
+  pub sizes-no-trainees : {x k : ℕ} → number 3 0 256 q ≡ refusal x 0 k → sizes e q ≡ refusal x 0 k
   unfolding sizes
   sizes-no-trainees f = rw f
 
   module _ {n : ℕ} {r : List ℕ} (f : number 3 0 256 q ≡ got n r) where
-    pub sizes-no-depots : {x : ℕ} → number 4 0 64 r ≡ refusal x 0 4 → sizes e q ≡ refusal x 0 4
+    pub sizes-no-depots : {x k : ℕ} → number 4 0 64 r ≡ refusal x 0 k → sizes e q ≡ refusal x 0 k
     unfolding sizes
     sizes-no-depots g = rw f (rw g)
 
     module _ {m : ℕ} {r' : List ℕ} (g : number 4 0 64 r ≡ got m r') where
-      pub sizes-no-end : line_end 5 r' ≡ refusal 3 0 5 → sizes e q ≡ refusal 3 0 5
+      pub sizes-no-end : {x k : ℕ} → line_end 5 r' ≡ refusal x 0 k → sizes e q ≡ refusal x 0 k
       unfolding sizes
       sizes-no-end h = rw f (rw g (rw h))
 
@@ -207,21 +252,20 @@ module _ (e : ℕ) (q : List ℕ) where
       unfolding sizes
       sizes-whole h = rw f (rw g (rw h))
 
-module _ (s : List ℕ) where
-  pub head-no-word : keyword word_placement s ≡ refusal 3 0 1 → head_fields s ≡ refusal 3 0 1
+module _ (q : List ℕ) where
+  pub head-no-word : {x f : ℕ} → keyword word_placement q ≡ refusal x 0 f → head_fields q ≡ refusal x 0 f
   unfolding head_fields
   head-no-word e = rw e
 
-  module _ {r : List ℕ} (e : keyword word_placement s ≡ got tt r) where
-    pub head-no-edition : running 2 1 r ≡ refusal 3 0 2 → head_fields s ≡ refusal 3 0 2
+  module _ {r : List ℕ} (e : keyword word_placement q ≡ got tt r) where
+    pub head-no-edition : {x f : ℕ} → running 2 1 r ≡ refusal x 0 f → head_fields q ≡ refusal x 0 f
     unfolding head_fields edition
-    head-no-edition f = rw e (rw f)
+    head-no-edition g = rw e (rw g)
 
-    pub head-sizes : {r' : List ℕ} → running 2 1 r ≡ got tt r' → head_fields s ≡ sizes 1 r'
+    head-sizes : {r' : List ℕ} → running 2 1 r ≡ got tt r' → head_fields q ≡ sizes 1 r'
     unfolding head_fields edition
-    head-sizes f = rw e (rw f)
+    head-sizes g = rw e (rw g)
 
-pub head-of-sizes : (s : List ℕ) (q : ℕ) (r : HeadRow) → head_fields s ≡ sizes 1 (drop q s) → SizesRead s q r → HeadRead s r
-head-of-sizes s q (ToHead n m next) e S =
-    record { goes = e ∙ S.goes 1; within = S.within; few_trainees = S.few_trainees; few_depots = S.few_depots }
-head-of-sizes s q (HeadRefused x f) e S = e ∙ S 1
+    pub head-of-sizes : {r' : List ℕ} (r'' : List ℕ) (z : Result Sizes Wrong) → running 2 1 r ≡ got tt r' → SizesRead r' r'' z → HeadRead q r'' z
+    head-of-sizes r'' (Ok z) g S = head-sizes g ∙ S 1
+    head-of-sizes r'' (Err x) g S = head-sizes g ∙ S 1

@@ -1,511 +1,349 @@
-// The reader of the placement text, line by line: each function reads from a position of the text and fills cells of scratch tables.
-// A field is read from the position of its tab. Refusals carry their number and field; the line is added where lines are counted.
+// The reader of the placement text, line by line: each function reads from the front of what is left of the text and fills cells of scratch tables.
+// A field is read from its tab on. A refusal has its field; the line is added where lines are counted.
 #![tactic(auto)]
 
-ghost use Rattle.std.specs.Prelude.{◌≡◌, [], ◌+◌, ◌*◌, ◌≤◌, length, drop};
+ghost use Rattle.std.specs.Prelude.{◌≡◌, [], ◌+◌, ◌*◌, ◌≤◌, length};
 ghost use Rattle.std.proofs.Math.Option.{some};
 ghost use Rattle.meaning.specs.Placement.{size, depot_size};
 ghost use Rattle.fields.specs.Reader.{lines};
-ghost use Rattle.placement_text.specs.Reader.{entries, listed, list, trainee_fields, trainee_line, depot_of, depot_fields, depot_line, orders};
-ghost use Rattle.placement_text.specs.Code.{ReceivedRead, EntriesRead, ListedRead, PostsRead, DepotRead, TraineesRead, DepotsRead, OpeningRead, PairRead, FinishRead, OrderRead, PairsRead, SizesRead, HeadRead};
+ghost use Rattle.placement_text.specs.Reader.{received, entries, listed, list, trainee_fields, trainee_line, depot_fields, depot_line, orders, sizes, head_fields};
+ghost use Rattle.placement_text.specs.Code.{ReceivedRead, EntriesRead, CountedRead, ListedRead, TraineeRead, DepotRead, DepotLineRead, TraineesRead, DepotsRead, OpeningRead, PairRead, FinishRead, OrderRead, PairsRead, SizesRead, HeadRead};
 
-use fields::{Field, Found, Num, Numbered, Ranged};
+use fields::{Cursor, Misread, Wrong};
+use meaning::Fault;
 
-// A number or `?`, and where it stopped; or the number of the refusal, 3 or 4.
+pub mod room;
+
+pub use room::{Room, Sizes};
+
+// What the line of a depot gives beside its entries: its posts and the length of its list, where they were received.
 #[derive(Clone, Copy)]
-pub enum Received {
-    Is(u16, usize),
-    Missing(usize),
-    Not(u16),
+pub struct DepotRow {
+    pub posts: Option<u16>,
+    pub list: Option<u16>,
 }
 
-// Where the entries stopped; or the refusal's number and field.
+// Whether a pair is held or barred, by the number of its cell.
 #[derive(Clone, Copy)]
-pub enum Entries {
-    To(usize),
-    Refused(u16, usize),
+pub enum Kind {
+    Held = 0,
+    Barred = 1,
 }
 
-// A list: the cell of its length, how many entries it has, and where its line stopped; or the refusal's number and field.
+// What a line below the depots is, by its word.
 #[derive(Clone, Copy)]
-pub enum Listed {
-    To(u16, usize, usize),
-    Refused(u16, usize),
+pub enum Opening {
+    Order(Kind),
+    End,
 }
 
-// Posts: their cell, and where they stopped; or the number of the refusal, 3 or 4.
+// A held or barred pair.
 #[derive(Clone, Copy)]
-pub enum Posts {
-    To(u16, usize),
-    Not(u16),
+pub struct Pair {
+    pub kind: Kind,
+    pub trainee: u16,
+    pub depot: u16,
 }
 
-// A depot: the cells of its posts and its length, how many entries it has, and where its line stopped; or the refusal's number and field.
-#[derive(Clone, Copy)]
-pub enum DepotRow {
-    To(u16, u16, usize, usize),
-    Refused(u16, usize),
-}
-
-// The lines of a side: how many entries they have together, and where they stopped; or the refusal's number, line and field.
-#[derive(Clone, Copy)]
-pub enum Side {
-    To(usize, usize),
-    Refused(u16, usize, usize),
-}
-
-// What a line below the depots is, by its word: a pair with the cell of its kind, or the end line, and where the word stopped.
-#[derive(Clone, Copy)]
-pub enum Opens {
-    Pair(u16, usize),
-    End(usize),
-    Other,
-}
-
-// The trainee and the depot of a pair, and where its line stopped; or the refusal's number and field.
-#[derive(Clone, Copy)]
-pub enum PairRow {
-    To(u16, u16, usize),
-    Refused(u16, usize),
-}
-
-// The end of the text; or the refusal's number, line and field.
-#[derive(Clone, Copy)]
-pub enum Finish {
-    Done,
-    Refused(u16, usize, usize),
-}
-
-// A line below the depots: a pair's cells and where its line stopped, or the end of the text; or the refusal's number, line and field.
-#[derive(Clone, Copy)]
-pub enum OrderRow {
-    Pair(u16, u16, u16, usize),
-    Done,
-    Refused(u16, usize, usize),
-}
-
-// How many pairs there are; or the refusal's number, line and field.
-#[derive(Clone, Copy)]
-pub enum Orders {
-    To(usize),
-    Refused(u16, usize, usize),
-}
-
-// How many trainees and depots there are, and where the first line stopped; or the refusal's number and field.
-#[derive(Clone, Copy)]
-pub enum HeadRow {
-    To(u16, u16, usize),
-    Refused(u16, usize),
-}
-
-// A number of 0 to hi in the field at `at`, or `?`.
-fn received_at(s: &[u8], at: usize, hi: u16) -> Received
-    requires { at ≤ length s.now }
-    ensures { ReceivedRead s.now at hi result }
+// A number of 0 to hi in the field k, or `?`.
+fn received(text: &mut Cursor, k: usize, hi: u16) -> Result<Option<u16>, Wrong>
+    ensures { ReceivedRead (received k hi text.old.rest.now) text.new.rest.now result }
 {
-    let w = fields::field_at(s, at);
-    match w {
-        Field::Missing => Received::Not(3),
-        Field::Word(from, to) => {
-            if fields::same_word(s, from, to, b"?") {
-                return Received::Missing(to);
-            }
-            let n = fields::number_in(s, from, to);
-            match n {
-                Num::Not => Received::Not(3),
-                Num::Value(v) => {
-                    if (hi as u32) < v {
-                        return Received::Not(4);
-                    }
-                    Received::Is(v as u16, to)
-                }
-            }
-        }
+    let w = text.field(k)?;
+    if w == b"?".as_slice() {
+        return Ok(None);
     }
+    let v = fields::number_in(w).ok_or(Wrong {
+        fault: Fault::WrongForm,
+        field: k,
+    })?;
+    if (hi as u32) < v {
+        return Err(Wrong {
+            fault: Fault::OutOfRange,
+            field: k,
+        });
+    }
+    Ok(Some(v as u16))
 }
 
 // `count` entries from the field k on, into the cells of t from `start` on; `seen` marks those of this list.
-fn entries_at(
-    s: &[u8],
-    at: usize,
-    count: usize,
+fn entries(
+    text: &mut Cursor,
     k: usize,
+    count: usize,
     hi: u16,
     t: &mut [u16],
     start: usize,
-) -> Entries
-    requires { (at ≤ length s.now) × (start + count ≤ length t.old) × (k ≤ 5) × (hi ≤ 256) }
-    ensures { EntriesRead s.now (entries count k hi [] (drop at s.now)) start t.old t.new result }
+) -> Result<(), Wrong>
+    requires { (start + count ≤ length t.old) × (k ≤ 5) × (hi ≤ 256) }
+    ensures { EntriesRead (entries count k hi [] text.old.rest.now) start t.old t.new text.new.rest.now result }
 {
     let mut seen = [false; 257];
-    let mut c: usize = 0;
-    let mut p = at;
-    while c < count {
-        let e = fields::number_at(s, p, 1, hi);
-        match e {
-            Ranged::Not(x) => {
-                return Entries::Refused(x, k + c);
-            }
-            Ranged::Is(v, next) => {
-                let i = v as usize;
-                if seen[i] {
-                    return Entries::Refused(5, k + c);
-                }
-                seen[i] = true;
-                t[start + c] = v;
-                p = next;
-                c += 1;
-            }
+    for c in 0..count {
+        let e = text.number(k + c, 1, hi)?;
+        if seen[e as usize] {
+            return Err(Wrong {
+                fault: Fault::NamedTwice,
+                field: k + c,
+            });
         }
+        seen[e as usize] = true;
+        t[start + c] = e;
     }
-    Entries::To(p)
+    Ok(())
 }
 
 // After the length of a list, `count` in the field k: the entries and the end of the line.
-fn counted_at(
-    s: &[u8],
-    at: usize,
+fn counted(
+    text: &mut Cursor,
     k: usize,
     count: u16,
     hi: u16,
-    total: usize,
+    room: Room,
     t: &mut [u16],
-    start: usize,
-) -> Listed
-    requires { (at ≤ length s.now) × (k ≤ 4) × (hi ≤ 256) × (total ≤ 4096) × (start ≤ total + 4096) × (8192 ≤ length t.old) }
-    ensures { ListedRead s.now (listed k hi total (some count) (drop at s.now)) start t.old t.new result }
+) -> Result<(), Wrong>
+    requires { (k ≤ 4) × (hi ≤ 256) × (8192 ≤ length t.old) }
+    ensures { CountedRead (listed k hi room.total (some count) text.old.rest.now) (room.base + room.total) count t.old t.new text.new.rest.now result }
 {
     let size = count as usize;
-    if 4096 < total + size {
-        return Listed::Refused(6, k);
+    if 4096 < room.total + size {
+        return Err(Wrong {
+            fault: Fault::TooMany,
+            field: k,
+        });
     }
-    let e = entries_at(s, at, size, k + 1, hi, t, start);
-    match e {
-        Entries::Refused(x, f) => Listed::Refused(x, f),
-        Entries::To(p) => {
-            let f = fields::line_end_at(s, p);
-            match f {
-                Found::To(next) => Listed::To(count, size, next),
-                Found::Wrong => Listed::Refused(3, k + 1 + size),
-            }
-        }
-    }
+    entries(text, k + 1, size, hi, t, room.start())?;
+    text.line_end(k + 1 + size)
 }
 
-// A list whose length stands in the field k, at `at`; its side has `total` entries above, and its own go to the cells of t from `start` on.
-fn list_at(
-    s: &[u8],
-    at: usize,
+// A list: its length in the field k, where it was received, and its entries.
+fn list(
+    text: &mut Cursor,
     k: usize,
     hi: u16,
-    total: usize,
+    room: Room,
     t: &mut [u16],
-    start: usize,
-) -> Listed
-    requires { (at ≤ length s.now) × (k ≤ 4) × (hi ≤ 256) × (total ≤ 4096) × (start ≤ total + 4096) × (8192 ≤ length t.old) }
-    ensures { ListedRead s.now (list k hi total (drop at s.now)) start t.old t.new result }
+) -> Result<Option<u16>, Wrong>
+    requires { (k ≤ 4) × (hi ≤ 256) × (8192 ≤ length t.old) }
+    ensures { ListedRead (list k hi room.total text.old.rest.now) (room.base + room.total) t.old t.new text.new.rest.now result }
 {
-    let l = received_at(s, at, hi);
-    match l {
-        Received::Not(x) => Listed::Refused(x, k),
-        Received::Missing(p) => {
-            let f = fields::line_end_at(s, p);
-            match f {
-                Found::To(next) => Listed::To(65535, 0, next),
-                Found::Wrong => Listed::Refused(3, k + 1),
-            }
-        }
-        Received::Is(count, p) => counted_at(s, p, k, count, hi, total, t, start),
-    }
+    let Some(count) = received(text, k, hi)? else {
+        text.line_end(k + 1)?;
+        return Ok(None);
+    };
+    counted(text, k, count, hi, room, t)?;
+    Ok(Some(count))
 }
 
-// The line of trainee i: its side has `total` entries above, and its own go to the cells of t from `start` on.
-fn trainee_at(
-    s: &[u8],
-    at: usize,
-    m: u16,
+// The fields of trainee i.
+fn trainee(
+    text: &mut Cursor,
+    sizes: Sizes,
     i: u16,
-    total: usize,
+    room: Room,
     t: &mut [u16],
-    start: usize,
-) -> Listed
-    requires { (at ≤ length s.now) × (m ≤ 64) × (total ≤ 4096) × (start ≤ total + 4096) × (8192 ≤ length t.old) }
-    ensures { ListedRead s.now (trainee_fields m i total (drop at s.now)) start t.old t.new result }
+) -> Result<Option<u16>, Wrong>
+    requires { 8192 ≤ length t.old }
+    ensures { ListedRead (trainee_fields sizes.depots i room.total text.old.rest.now) (room.base + room.total) t.old t.new text.new.rest.now result }
 {
-    let w = fields::numbered_at(s, at, b"T", i);
-    match w {
-        Numbered::Wrong(f) => Listed::Refused(3, f),
-        Numbered::To(p) => list_at(s, p, 3, m, total, t, start),
-    }
+    text.numbered(b"T", i)?;
+    list(text, 3, sizes.depots, room, t)
 }
 
-// Posts in the field at `at`.
-fn posts_at(s: &[u8], at: usize) -> Posts
-    requires { at ≤ length s.now }
-    ensures { PostsRead s.now at result }
+// The line of trainee i.
+fn trainee_line(
+    text: &mut Cursor,
+    sizes: Sizes,
+    i: u16,
+    room: Room,
+    t: &mut [u16],
+) -> Result<Option<u16>, Misread>
+    requires { 8192 ≤ length t.old }
+    ensures { TraineeRead (trainee_line sizes.depots i room.total text.old.rest.now) (room.base + room.total) t.old t.new text.new.rest.now result }
 {
-    let p = received_at(s, at, 256);
-    match p {
-        Received::Not(x) => Posts::Not(x),
-        Received::Missing(next) => Posts::To(65535, next),
-        Received::Is(v, next) => Posts::To(v, next),
-    }
+    trainee(text, sizes, i, room, t).map_err(|w| w.on(i as usize + 1))
 }
 
-// Posts and list of a depot, the posts in the field 3, at `at`.
-fn depot_of(s: &[u8], at: usize, n: u16, total: usize, t: &mut [u16], start: usize) -> DepotRow
-    requires { (at ≤ length s.now) × (n ≤ 256) × (total ≤ 4096) × (start ≤ total + 4096) × (8192 ≤ length t.old) }
-    ensures { DepotRead s.now (depot_of n total (drop at s.now)) start t.old t.new result }
-{
-    let w = posts_at(s, at);
-    match w {
-        Posts::Not(x) => DepotRow::Refused(x, 3),
-        Posts::To(posts, p) => {
-            let l = list_at(s, p, 4, n, total, t, start);
-            match l {
-                Listed::Refused(x, f) => DepotRow::Refused(x, f),
-                Listed::To(cell, count, next) => DepotRow::To(posts, cell, count, next),
-            }
-        }
-    }
-}
-
-// The line of depot j: its side has `total` entries above, and its own go to the cells of t from `start` on.
-fn depot_at(
-    s: &[u8],
-    at: usize,
-    n: u16,
+// The fields of depot j.
+fn depot(
+    text: &mut Cursor,
+    sizes: Sizes,
     j: u16,
-    total: usize,
+    room: Room,
     t: &mut [u16],
-    start: usize,
-) -> DepotRow
-    requires { (at ≤ length s.now) × (n ≤ 256) × (total ≤ 4096) × (start ≤ total + 4096) × (8192 ≤ length t.old) }
-    ensures { DepotRead s.now (depot_fields n j total (drop at s.now)) start t.old t.new result }
+) -> Result<DepotRow, Wrong>
+    requires { 8192 ≤ length t.old }
+    ensures { DepotRead (depot_fields sizes.trainees j room.total text.old.rest.now) (room.base + room.total) t.old t.new text.new.rest.now result }
 {
-    let w = fields::numbered_at(s, at, b"D", j);
-    match w {
-        Numbered::Wrong(f) => DepotRow::Refused(3, f),
-        Numbered::To(p) => depot_of(s, p, n, total, t, start),
-    }
+    text.numbered(b"D", j)?;
+    let posts = received(text, 3, 256)?;
+    let list = list(text, 4, sizes.trainees, room, t)?;
+    Ok(DepotRow { posts, list })
 }
 
-// The lines of the trainees: their heads go to the cells of h behind the first three, and their entries to the front of t.
-pub fn trainee_lines(s: &[u8], at: usize, n: usize, m: u16, h: &mut [u16], t: &mut [u16]) -> Side
-    requires { (at ≤ length s.now) × (n ≤ 256) × (m ≤ 64) × (3 + 2 * n ≤ length h.old) × (8192 ≤ length t.old) }
-    ensures { TraineesRead s.now (lines (trainee_line m) size n 1 0 [] (drop at s.now)) h.old h.new t.old t.new result }
+// The line of depot j, which stands below those of the trainees.
+fn depot_line(
+    text: &mut Cursor,
+    sizes: Sizes,
+    j: u16,
+    room: Room,
+    t: &mut [u16],
+) -> Result<DepotRow, Misread>
+    requires { 8192 ≤ length t.old }
+    ensures { DepotLineRead (depot_line sizes.trainees j room.total text.old.rest.now) (room.base + room.total) t.old t.new text.new.rest.now result }
 {
-    let mut c: usize = 0;
-    let mut p = at;
+    depot(text, sizes, j, room, t).map_err(|w| w.on(sizes.trainees as usize + j as usize + 1))
+}
+
+// The lines of the trainees, and how many entries they have: their heads go to the cells of h behind the first three, and the entries to the front of t.
+pub fn trainee_lines(
+    text: &mut Cursor,
+    sizes: Sizes,
+    h: &mut [u16],
+    t: &mut [u16],
+) -> Result<usize, Misread>
+    requires { (3 + 2 * sizes.trainees ≤ length h.old) × (8192 ≤ length t.old) }
+    ensures { TraineesRead (lines (trainee_line sizes.depots) size sizes.trainees 1 0 [] text.old.rest.now) h.old h.new t.old t.new text.new.rest.now result }
+{
     let mut total: usize = 0;
-    while c < n {
-        let l = trainee_at(s, p, m, (c + 1) as u16, total, t, total);
-        match l {
-            Listed::Refused(x, f) => {
-                return Side::Refused(x, c + 2, f);
-            }
-            Listed::To(cell, count, next) => {
-                h[3 + 2 * c] = total as u16;
-                h[4 + 2 * c] = cell;
-                total += count;
-                p = next;
-                c += 1;
-            }
-        }
+    for c in 0..sizes.trainees as usize {
+        let list = trainee_line(text, sizes, c as u16 + 1, Room { base: 0, total }, t)?;
+        let q = 3 + 2 * c;
+        h[q] = total as u16;
+        h[q + 1] = list.unwrap_or(65535);
+        total += list.unwrap_or(0) as usize;
     }
-    Side::To(total, p)
+    Ok(total)
 }
 
-// The lines of the depots: their heads go to the cells of h behind those of the n trainees, and their entries to those of t from `base` on.
+// The lines of the depots, and how many entries they have: their heads go to the cells of h behind those of the trainees, and the entries to those
+// of t from `base` on.
 pub fn depot_lines(
-    s: &[u8],
-    at: usize,
-    n: usize,
-    m: usize,
+    text: &mut Cursor,
+    sizes: Sizes,
     base: usize,
     h: &mut [u16],
     t: &mut [u16],
-) -> Side
-    requires { (at ≤ length s.now) × (n ≤ 256) × (m ≤ 64) × (base ≤ 4096) × (3 + 2 * n + 3 * m ≤ length h.old) × (8192 ≤ length t.old) }
-    ensures { DepotsRead s.now (lines (depot_line n) depot_size m 1 0 [] (drop at s.now)) n base h.old h.new t.old t.new result }
+) -> Result<usize, Misread>
+    requires { (base ≤ 4096) × (3 + 2 * sizes.trainees + 3 * sizes.depots ≤ length h.old) × (8192 ≤ length t.old) }
+    ensures { DepotsRead (lines (depot_line sizes.trainees) depot_size sizes.depots 1 0 [] text.old.rest.now) sizes.trainees base h.old h.new t.old t.new text.new.rest.now result }
 {
-    let first = 3 + 2 * n;
-    let mut c: usize = 0;
-    let mut p = at;
+    let first = 3 + 2 * sizes.trainees as usize;
     let mut total: usize = 0;
-    while c < m {
-        let d = depot_at(s, p, n as u16, (c + 1) as u16, total, t, base + total);
-        match d {
-            DepotRow::Refused(x, f) => {
-                return Side::Refused(x, n + c + 2, f);
-            }
-            DepotRow::To(posts, cell, count, next) => {
-                let q = first + 3 * c;
-                h[q] = (base + total) as u16;
-                h[q + 1] = cell;
-                h[q + 2] = posts;
-                total += count;
-                p = next;
-                c += 1;
-            }
-        }
+    for c in 0..sizes.depots as usize {
+        let row = depot_line(text, sizes, c as u16 + 1, Room { base, total }, t)?;
+        let q = first + 3 * c;
+        h[q] = (base + total) as u16;
+        h[q + 1] = row.list.unwrap_or(65535);
+        h[q + 2] = row.posts.unwrap_or(65535);
+        total += row.list.unwrap_or(0) as usize;
     }
-    Side::To(total, p)
+    Ok(total)
 }
 
-// The word of a line below the depots.
-fn opening_at(s: &[u8], at: usize) -> Opens
-    requires { at ≤ length s.now }
-    ensures { OpeningRead s.now at result }
+// The word of the line l below the depots.
+fn opening_of(text: &mut Cursor, l: usize) -> Result<Opening, Misread>
+    ensures { OpeningRead l text.old.rest.now text.new.rest.now result }
 {
-    let to = fields::word_end(s, at);
-    if fields::same_word(s, at, to, b"F") {
-        return Opens::Pair(0, to);
+    if text.keyword(b"F").is_ok() {
+        return Ok(Opening::Order(Kind::Held));
     }
-    if fields::same_word(s, at, to, b"X") {
-        return Opens::Pair(1, to);
+    if text.keyword(b"X").is_ok() {
+        return Ok(Opening::Order(Kind::Barred));
     }
-    if fields::same_word(s, at, to, b"end") {
-        return Opens::End(to);
-    }
-    Opens::Other
+    text.keyword(b"end").map_err(|w| w.on(l))?;
+    Ok(Opening::End)
 }
 
 // The fields of a held or barred pair, after its word.
-fn pair_at(s: &[u8], at: usize, n: u16, m: u16) -> PairRow
-    requires { at ≤ length s.now }
-    ensures { PairRead s.now at n m result }
+fn order_fields(text: &mut Cursor, sizes: Sizes, kind: Kind) -> Result<Pair, Wrong>
+    ensures { PairRead sizes.trainees sizes.depots kind text.old.rest.now text.new.rest.now result }
 {
-    let t = fields::number_at(s, at, 1, n);
-    match t {
-        Ranged::Not(x) => PairRow::Refused(x, 2),
-        Ranged::Is(i, p) => {
-            let d = fields::number_at(s, p, 1, m);
-            match d {
-                Ranged::Not(x) => PairRow::Refused(x, 3),
-                Ranged::Is(j, q) => {
-                    let f = fields::line_end_at(s, q);
-                    match f {
-                        Found::Wrong => PairRow::Refused(3, 4),
-                        Found::To(next) => PairRow::To(i, j, next),
-                    }
-                }
-            }
-        }
-    }
+    let trainee = text.number(2, 1, sizes.trainees)?;
+    let depot = text.number(3, 1, sizes.depots)?;
+    text.line_end(4)?;
+    Ok(Pair {
+        kind,
+        trainee,
+        depot,
+    })
 }
 
 // The end line, l, after its word, and the end of the text.
-fn finish_at(s: &[u8], at: usize, l: usize) -> Finish
-    requires { (at ≤ length s.now) × (l ≤ 65536) }
-    ensures { FinishRead s.now at l result }
+fn finish(text: &mut Cursor, l: usize) -> Result<(), Misread>
+    requires { l ≤ 65536 }
+    ensures { FinishRead l text.old.rest.now result }
 {
-    let f = fields::line_end_at(s, at);
-    match f {
-        Found::Wrong => Finish::Refused(3, l, 2),
-        Found::To(p) => {
-            if p < s.len() {
-                return Finish::Refused(3, l + 1, 1);
-            }
-            Finish::Done
-        }
+    text.line_end(2).map_err(|w| w.on(l))?;
+    if !text.rest.is_empty() {
+        return Err(Misread {
+            fault: Fault::WrongForm,
+            line: l + 1,
+            field: 1,
+        });
     }
+    Ok(())
 }
 
-// The line l below the depots, after c pairs.
-fn order_at(s: &[u8], at: usize, n: u16, m: u16, l: usize, c: usize) -> OrderRow
-    requires { (at ≤ length s.now) × (l ≤ 65536) × (c ≤ 1024) }
-    ensures { OrderRead s.now at n m l c result }
+// The line l below the depots, after c pairs: one more pair, or none at the end of the text.
+fn order(text: &mut Cursor, sizes: Sizes, l: usize, c: usize) -> Result<Option<Pair>, Misread>
+    requires { (l ≤ 65536) × (c ≤ 1024) }
+    ensures { OrderRead sizes.trainees sizes.depots l c text.old.rest.now text.new.rest.now result }
 {
-    let w = opening_at(s, at);
-    match w {
-        Opens::Other => OrderRow::Refused(3, l, 1),
-        Opens::End(p) => {
-            let f = finish_at(s, p, l);
-            match f {
-                Finish::Done => OrderRow::Done,
-                Finish::Refused(x, k, g) => OrderRow::Refused(x, k, g),
-            }
-        }
-        Opens::Pair(kind, p) => {
-            if c == 1024 {
-                return OrderRow::Refused(6, l, 1);
-            }
-            let f = pair_at(s, p, n, m);
-            match f {
-                PairRow::Refused(x, g) => OrderRow::Refused(x, l, g),
-                PairRow::To(i, j, next) => OrderRow::Pair(kind, i, j, next),
-            }
-        }
+    let Opening::Order(kind) = opening_of(text, l)? else {
+        finish(text, l)?;
+        return Ok(None);
+    };
+    if c == 1024 {
+        return Err(Misread {
+            fault: Fault::TooMany,
+            line: l,
+            field: 1,
+        });
     }
+    order_fields(text, sizes, kind)
+        .map(Some)
+        .map_err(|w| w.on(l))
 }
 
-// The lines below the depots, the first of them l: their pairs go to the front of o, behind their number.
-pub fn order_lines(s: &[u8], at: usize, n: u16, m: u16, l: usize, o: &mut [u16]) -> Orders
-    requires { (at ≤ length s.now) × (l ≤ 1024) × (3073 ≤ length o.old) }
-    ensures { PairsRead (orders 1024 n m l [] (drop at s.now)) o.old o.new result }
+// The lines below the depots, the first of them l, and how many pairs there are: these go to the front of o, behind their number.
+pub fn order_lines(
+    text: &mut Cursor,
+    sizes: Sizes,
+    l: usize,
+    o: &mut [u16],
+) -> Result<usize, Misread>
+    requires { (l ≤ 1024) × (3073 ≤ length o.old) }
+    ensures { PairsRead (orders 1024 sizes.trainees sizes.depots l [] text.old.rest.now) o.old o.new result }
 {
     let mut c: usize = 0;
-    let mut p = at;
-    loop {
-        let x = order_at(s, p, n, m, l + c, c);
-        match x {
-            OrderRow::Refused(e, k, f) => {
-                return Orders::Refused(e, k, f);
-            }
-            OrderRow::Done => {
-                o[0] = c as u16;
-                return Orders::To(c);
-            }
-            OrderRow::Pair(kind, i, j, next) => {
-                let q = 1 + 3 * c;
-                o[q] = kind;
-                o[q + 1] = i;
-                o[q + 2] = j;
-                p = next;
-                c += 1;
-            }
-        }
+    // How many pairs there are is known at the end line alone, so that a `for` would be no plainer.
+    while let Some(pair) = order(text, sizes, l + c, c)? {
+        let q = 1 + 3 * c;
+        o[q] = pair.kind as u16;
+        o[q + 1] = pair.trainee;
+        o[q + 2] = pair.depot;
+        c += 1;
     }
+    o[0] = c as u16;
+    Ok(c)
 }
 
-// The numbers of trainees and depots, the first in the field 3 at `at`, and the end of the line.
-fn sizes_at(s: &[u8], at: usize) -> HeadRow
-    requires { at ≤ length s.now }
-    ensures { SizesRead s.now at result }
+// The numbers of trainees and depots, and the end of the line.
+fn sizes(text: &mut Cursor) -> Result<Sizes, Wrong>
+    ensures { SizesRead text.old.rest.now text.new.rest.now result }
 {
-    let t = fields::number_at(s, at, 0, 256);
-    match t {
-        Ranged::Not(x) => HeadRow::Refused(x, 3),
-        Ranged::Is(n, p) => {
-            let d = fields::number_at(s, p, 0, 64);
-            match d {
-                Ranged::Not(x) => HeadRow::Refused(x, 4),
-                Ranged::Is(m, q) => {
-                    let f = fields::line_end_at(s, q);
-                    match f {
-                        Found::Wrong => HeadRow::Refused(3, 5),
-                        Found::To(next) => HeadRow::To(n, m, next),
-                    }
-                }
-            }
-        }
-    }
+    let trainees = text.number(3, 0, 256)?;
+    let depots = text.number(4, 0, 64)?;
+    text.line_end(5)?;
+    Ok(Sizes { trainees, depots })
 }
 
 // The first line of the text.
-pub fn head_at(s: &[u8]) -> HeadRow
-    ensures { HeadRead s.now result }
+pub fn head(text: &mut Cursor) -> Result<Sizes, Wrong>
+    ensures { HeadRead text.old.rest.now text.new.rest.now result }
 {
-    let w = fields::keyword_at(s, 0, b"placement");
-    match w {
-        Found::Wrong => HeadRow::Refused(3, 1),
-        Found::To(p) => {
-            let e = fields::running_at(s, p, 1);
-            match e {
-                Found::Wrong => HeadRow::Refused(3, 2),
-                Found::To(q) => sizes_at(s, q),
-            }
-        }
-    }
+    text.keyword(b"placement")?;
+    text.running(2, 1)?;
+    sizes(text)
 }

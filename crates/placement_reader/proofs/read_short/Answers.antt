@@ -1,45 +1,56 @@
 -- A refusal leaves the lent tables alone; what was read stands in the scratch tables' fronts, which are laid over the lent ones.
-use mathlib.Core.Path.{◌∙◌, subst}
+use Prim.Native.Nat.{◌+◌}
+use mathlib.Core.Path.{◌≡◌, refl, sym, ◌∙◌}
 use native.Mathlib.Omega.{arith}
-use Rattle.placement_reader.specs.Code.{WholeRead}
-use Rattle.placement_reader.specs.Reading.{reads}
+use lib.Seq.{length-take-le}
+use denote.Enum.Declared.{tag_of}
+use Rattle.meaning.specs.contracts.Fault.{the_type}
+use Rattle.meaning.specs.declared.Fault.{Fault}
 use Rattle.meaning.specs.declared.Reading.{Reading}
+use Rattle.meaning.specs.Answers.{fault_number}
+use Rattle.placement_reader.specs.Reading.{reads}
 use Rattle.placement_reader.proofs.Below.{few-lines}
-use Rattle.placement_reader.proofs.Ways.{answer-refused, used, answer-taken}
+use Rattle.placement_reader.proofs.Ways.{answer-refused, used_fits, answer-taken}
 use Rattle.placement_reader.proofs.read_short.Goals as goal
 
-pub overflow_cast-result : goal.overflow_cast-result
-overflow_cast-result c =
-    let W = subst (WholeRead c.args.text.now _ _ _ _ _ _) c.in-Refused.is c.whole_at-w.ensures in
-    omega (arith, few-lines c.args.text.now W.goes)
+given-number : (f : Fault) → tag_of the_type f + 1 ≡ fault_number f
+given-number Fault.ShortPart = refl
+given-number Fault.LongText = refl
+given-number Fault.WrongForm = refl
+given-number Fault.OutOfRange = refl
+given-number Fault.NamedTwice = refl
+given-number Fault.TooMany = refl
+given-number Fault.NotReceived = refl
+given-number Fault.NotRead = refl
 
-pub lay-requires : goal.lay-requires
-lay-requires c =
-    let W = subst (WholeRead c.args.text.now _ _ _ _ _ _) c.in-Taken.is c.whole_at-w.ensures in
-    let u = used W in
-    omega arith
+pub overflow_cast-result-in-Err : goal.overflow_cast-result-in-Err
+overflow_cast-result-in-Err c = omega (arith, few-lines c.args.text.now c.in-Err.ensures)
 
-pub lay-requires-in-Taken : goal.lay-requires-in-Taken
-lay-requires-in-Taken c =
-    let W = subst (WholeRead c.args.text.now _ _ _ _ _ _) c.in-Taken.is c.whole_at-w.ensures in
-    let u = used W in
-    omega arith
+pub slice_bounds-h-end : goal.slice_bounds-h-end
+slice_bounds-h-end c = omega (arith, (used_fits c.in-Ok.ensures).heads)
 
-pub lay-requires-in-Taken-2 : goal.lay-requires-in-Taken-2
-lay-requires-in-Taken-2 c =
-    let W = subst (WholeRead c.args.text.now _ _ _ _ _ _) c.in-Taken.is c.whole_at-w.ensures in
-    let u = used W in
-    omega arith
+pub slice_bounds-lay-end : goal.slice_bounds-lay-end
+slice_bounds-lay-end c = sym (length-take-le _ c.whole.new.h (omega (arith, (used_fits c.in-Ok.ensures).heads)))
 
-pub returns-in-Refused : goal.returns-in-Refused
-returns-in-Refused c =
+pub slice_bounds-t-end : goal.slice_bounds-t-end
+slice_bounds-t-end c = omega (arith, (used_fits c.in-Ok.ensures).entries)
+
+pub slice_bounds-lay-end-in-Ok : goal.slice_bounds-lay-end-in-Ok
+slice_bounds-lay-end-in-Ok c = sym (length-take-le _ c.whole.new.t (omega (arith, (used_fits c.in-Ok.ensures).entries)))
+
+pub slice_bounds-o-end : goal.slice_bounds-o-end
+slice_bounds-o-end c = omega (arith, (used_fits c.in-Ok.ensures).orders)
+
+pub slice_bounds-lay-end-in-Ok-2 : goal.slice_bounds-lay-end-in-Ok-2
+slice_bounds-lay-end-in-Ok-2 c = sym (length-take-le _ c.whole.new.o (omega (arith, (used_fits c.in-Ok.ensures).orders)))
+
+pub returns-in-Err : goal.returns-in-Err
+returns-in-Err c =
     let a = c.args in
-    let W = subst (WholeRead a.text.now _ _ _ _ _ _) c.in-Refused.is c.whole_at-w.ensures in
-    answer-refused a.text.now a.heads.now a.entries.now a.orders.now W
+    rw (given-number c.in-Err.x.fault) (answer-refused a.text.now a.heads.now a.entries.now a.orders.now c.in-Err.x c.in-Err.ensures)
 
-pub returns-in-Taken : goal.returns-in-Taken
-returns-in-Taken c =
+pub returns-in-Ok : goal.returns-in-Ok
+returns-in-Ok c =
     let a = c.args in
-    let W = subst (WholeRead a.text.now _ _ _ _ _ _) c.in-Taken.is c.whole_at-w.ensures in
-    (λ i. reads Reading.Taken (c.lay.ensures i) (c.lay-in-Taken.ensures i) (c.lay-in-Taken-2.ensures i))
-    ∙ answer-taken W a.heads.now a.entries.now a.orders.now (omega arith) (omega arith) (omega arith)
+    (λ i. reads Reading.Taken (c.lay.ensures i) (c.lay-in-Ok.ensures i) (c.lay-in-Ok-2.ensures i))
+    ∙ answer-taken c.in-Ok.ensures a.heads.now a.entries.now a.orders.now (omega arith) (omega arith) (omega arith)

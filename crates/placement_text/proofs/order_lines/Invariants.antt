@@ -3,8 +3,8 @@ use Prim.Native.Nat.{◌-◌}
 use Rattle.placement_text.proofs.Below.{PairsTurn}
 use Rattle.placement_text.proofs.order_lines.Given as goal
 
-abbrev pub invariant-loop-e : goal.invariant-loop-e
-invariant-loop-e l = PairsTurn l.s l.at l.n l.m l.l l.initial.o l.o l.c l.p
+abbrev pub invariant-loop-pair : goal.invariant-loop-pair
+invariant-loop-pair l = PairsTurn l.sizes.trainees l.sizes.depots l.l l.fn.text.rest.now l.initial.o l.o l.c l.text.rest.now
 
-abbrev pub decreases-loop-e : goal.decreases-loop-e
-decreases-loop-e l = 1024 - l.c
+abbrev pub decreases-loop-pair : goal.decreases-loop-pair
+decreases-loop-pair l = 1024 - l.c
