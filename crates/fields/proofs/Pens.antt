@@ -1,6 +1,6 @@
 -- What a pen puts one after the other, and the room for it.
-use Prim.Native.Nat.{ℕ, ◌+◌, ◌/◌, ◌%◌, ◌≤◌, ◌<◌}
-use mathlib.Core.Path.{◌≡◌, refl, sym, ap, ◌∙◌, subst}
+use Prim.Native.Nat.{ℕ, suc, ◌+◌, ◌-◌, ◌/◌, ◌%◌, ◌≤◌, ◌<◌}
+use mathlib.Core.Path.{◌≡◌, refl, sym, ap, ap₂, ◌∙◌, subst}
 use mathlib.Core.List.{List, [], ◌∷◌, ◌++◌, append-nil, append_assoc}
 use native.Mathlib.Omega.{arith}
 use native.Mathlib.Nat.{add-zero}
@@ -10,7 +10,7 @@ use lib.Seq.{drop-cons}
 use Rattle.std.proofs.lemmas.List.{drop_all}
 use Rattle.fields.specs.declared.pen.Pen.{Pen}
 use Rattle.fields.specs.Number.{digits_of}
-use Rattle.fields.specs.Writer.{write_number, write_numbers}
+use Rattle.fields.specs.Writer.{write_number, write_numbers, write_lines, lines_by}
 use Rattle.fields.specs.Leaves.{Put}
 use Rattle.fields.specs.Pen.{Room, Wrote}
 use Rattle.fields.proofs.Puts.{put_then, digits-one, digits-split, digit-more}
@@ -27,6 +27,10 @@ wrote_then V W = record { same = W.same ∙ V.same; size = W.size ∙ V.size; pu
 -- the pen is given up: what its output's name stood for at the end, out', is what the pen left there
 pub put_through : {p q : Pen} {x : List ℕ} → Wrote p q x → (out' : List ℕ) → (p.out.ghost_name ≡ q.out.ghost_name → out' ≡ q.out.now) → Put p.out.now out' p.at x q.at
 put_through {p} {q} {x} W out' f = subst (λ z. Put p.out.now z p.at x q.at) (sym (f (sym W.same))) W.put
+
+-- the front of what fits does
+pub room-front : (p : Pen) (x y : List ℕ) → Room p (x ++ y) → Room p x
+room-front p x y h = let l = length-append x y in omega arith
 
 -- after the front there is room for the rest
 pub room_next : {p q : Pen} {x : List ℕ} (y : List ℕ) → Wrote p q x → Room p (x ++ y) → Room q y
@@ -81,3 +85,32 @@ numbers-more l i h = rw (drop-cons l i 0, add-one)
 pub numbers-done : (l : List ℕ) (i : ℕ) → length l ≤ i → write_numbers (drop i l) ≡ []
 unfolding write_numbers
 numbers-done l i h = rw (drop_all i l h)
+
+-- ---- lines by their numbers: up to n, those from i on are left
+
+module _ (g : ℕ → List ℕ) where
+  pub by-begun : (i d : ℕ) → lines_by g i d ≡ lines_by g i (i + d - i)
+  by-begun i d = let e : i + d - i ≡ d = omega arith in rw e refl
+
+  pub by_more : (i n : ℕ) → i < n → lines_by g i (n - i) ≡ g i ++ lines_by g (i + 1) (n - (i + 1))
+  unfolding lines_by
+  by_more i n h = let e : n - i ≡ suc (n - (i + 1)) = omega arith in rw e refl
+
+  pub by-done : (i n : ℕ) → n ≤ i → lines_by g i (n - i) ≡ []
+  unfolding lines_by
+  by-done i n h = let e : n - i ≡ 0 = omega arith in rw e refl
+
+-- lines by their numbers are the lines of a list, where each is
+pub by-lines : {A : Type 0} (f : ℕ → A → List ℕ) (g : ℕ → List ℕ) (d : A) (xs : List A) (k i : ℕ) → ((j : ℕ) → j < length xs → g (i + j) ≡ f (k + j) (get_or xs j d))
+    → lines_by g i (length xs) ≡ write_lines f k xs
+unfolding lines_by write_lines
+by-lines f g d [] k i h = refl
+by-lines f g d (x ∷ xs) k i h =
+    let z : g (i + 0) ≡ f (k + 0) x = h 0 (omega arith) in
+    let a : i + 0 ≡ i = omega arith in
+    let b : k + 0 ≡ k = omega arith in
+    let first : g i ≡ f k x = rw (a, b) at z in
+    ap₂ (λ p q. p ++ q) first (by-lines f g d xs (k + 1) (i + 1) (λ j l.
+      let m : i + 1 + j ≡ i + suc j = omega arith in
+      let n : k + 1 + j ≡ k + suc j = omega arith in
+      rw (m, n) (h (suc j) (omega arith))))

@@ -1,8 +1,9 @@
 // Bytes put one after the other into an output.
 
-ghost use Rattle.std.specs.Prelude.{◌∷◌, []};
+ghost use Rattle.std.specs.Prelude.{ℕ, List, ◌∷◌, [], ◌+◌, ◌≤◌, ◌<◌};
 ghost use Rattle.fields.specs.Number.{digits_of};
-ghost use Rattle.fields.specs.Writer.{write_number, write_numbers, write_line};
+ghost use Rattle.fields.specs.Pen.{Room, Wrote};
+ghost use Rattle.fields.specs.Writer.{write_number, write_numbers, write_line, lines_by};
 
 // An output, and the position at which its next byte is put.
 #[derive(Drop)]
@@ -11,8 +12,18 @@ pub struct Pen<'a> {
     pub at: usize,
 }
 
+// Lines of one kind, each by its number.
+pub trait Lines {
+    ghost line: { Self → ℕ → List ℕ };
+    ghost there: { Self → ℕ → Type 0 };
+
+    // Puts the line i.
+    fn put(&self, i: usize, pen: &mut Pen)
+        requires { there self.now i × Room pen.old (line self.now i) }
+        ensures { Wrote pen.old pen.new (line self.now i) };
+}
+
 impl<'a> Pen<'a> {
-    ghost use Rattle.fields.specs.Pen.{Room, Wrote};
 
     // Puts one byte.
     pub fn byte(&mut self, b: u8)
@@ -74,5 +85,15 @@ impl<'a> Pen<'a> {
         self.word(w);
         self.numbers(vs);
         self.byte(10);
+    }
+
+    // Puts `count` lines, the first of them the line `from`.
+    pub fn lines<L: Lines>(&mut self, lines: &L, from: usize, count: usize)
+        requires { (from + count ≤ 65536) × ((i : ℕ) → from ≤ i → i < from + count → L.there lines.now i) × Room self.old (lines_by (L.line lines.now) from count) }
+        ensures { Wrote self.old self.new (lines_by (L.line lines.now) from count) }
+    {
+        for i in from..from + count {
+            lines.put(i, self);
+        }
     }
 }

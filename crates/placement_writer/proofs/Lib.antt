@@ -1,5 +1,4 @@
 -- The laws that writing is proved by, and what its answers mean.
-pub mod Going
 pub mod Lines
 pub mod Held
 pub mod Ways

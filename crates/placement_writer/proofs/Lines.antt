@@ -1,6 +1,6 @@
 -- What the parts of a line say, by the cells.
 -- Assumes nothing.
-use Prim.Native.Nat.{ℕ, ◌+◌, ◌-◌, ◌≤◌, ◌<◌}
+use Prim.Native.Nat.{ℕ, zero, suc, ◌+◌, ◌≤◌}
 use mathlib.Core.Path.{◌≡◌, refl, sym, ap, ap₂, ◌∙◌}
 use mathlib.Core.Option.{none, some}
 use Rattle.std.specs.Prelude.{Option as Answer, Some, None, IfSome}
@@ -11,16 +11,16 @@ use lib.Seq.{length-take-le}
 use lib.Dec.{eqb}
 use borrow.Author.Tests.{eq-eqb, ne_eqb, eqb-true, eqb-false}
 use Rattle.meaning.proofs.Booleans.{true-or-false}
-use Rattle.fields.specs.Writer.{write_number, write_numbers, write_line, write_lines}
-use Rattle.tables.specs.Cells.{missing_cell, part, CellGives}
+use Rattle.fields.specs.Writer.{write_number, write_numbers, write_line, write_lines, lines_by}
+use Rattle.tables.specs.Cells.{missing_cell, part, CellGives, trainee_start, depot_start, order_start}
 use Rattle.placement_text.specs.Words.{word_?, word_placement, letter}
-use Rattle.placement_text.specs.Writer.{or_mark, write_received, write_entries, write_list, write_orders, write_order, write_head}
+use Rattle.placement_text.specs.Writer.{or_mark, write_received, write_entries, write_list, write_trainee, write_depot, write_orders, write_order, write_head, write_end}
 use Rattle.meaning.specs.Placement.{Order}
 use Rattle.tables.specs.Kinds.{KindGives}
 use Rattle.tables.specs.declared.Kind.{Kind}
 use Rattle.tables.specs.declared.Kind.TheVariants.{Held, Barred}
-use Rattle.placement_writer.specs.Held.{number_in, received_in, list_in, kind_in, kind_given, order_in, run, ListRoom}
-use Rattle.placement_writer.proofs.Going.{run_more, run-done}
+use Rattle.placement_writer.specs.Held.{number_in, received_in, list_in, depot_in, kind_in, kind_given, order_in, run, ListRoom}
+use Rattle.placement_writer.proofs.Held.{text_in}
 
 -- ---- what was received, or not
 
@@ -88,28 +88,33 @@ head-line n m = simp append_assoc
 
 -- ---- lines
 
-module _ {A : Type 0} (f : ℕ → A → List ℕ) (g : ℕ → A) (n i : ℕ) where
-  pub lines_more : i < n → write_lines f i (run g (n - i) i) ≡ f i (g i) ++ write_lines f (i + 1) (run g (n - (i + 1)) (i + 1))
-  unfolding write_lines
-  lines_more h = rw (run_more g n i h)
+run-lines : {A : Type 0} (f : ℕ → A → List ℕ) (h : ℕ → A) (i d : ℕ) → lines_by (λ q. f q (h q)) i d ≡ write_lines f i (run h d i)
+unfolding lines_by write_lines run
+run-lines f h i zero = refl
+run-lines f h i (suc d) = ap (λ z. f i (h i) ++ z) (run-lines f h (i + 1) d)
 
-  pub lines-done : n ≤ i → write_lines f i (run g (n - i) i) ≡ []
-  unfolding write_lines
-  lines-done h = rw (run-done g n i h)
+run-orders : (h : ℕ → Order) (i d : ℕ) → lines_by (λ k. write_order (h k)) i d ≡ write_orders (run h d i)
+unfolding lines_by write_orders run
+run-orders h i zero = refl
+run-orders h i (suc d) = ap (λ z. write_order (h i) ++ z) (run-orders h (i + 1) d)
 
--- a loop over 1 to n begins with all of them
-pub lines-from-1 : {A : Type 0} (f : ℕ → A → List ℕ) (g : ℕ → A) (n : ℕ) → write_lines f 1 (run g n 1) ≡ write_lines f 1 (run g (n + 1 - 1) 1)
-lines-from-1 f g n = let e : n + 1 - 1 ≡ n = omega arith in rw e refl
+-- what is put for the cells, part by part
+module _ (h e o : List ℕ) (n m c : ℕ) where
+  abbrev pub trainees_put : List ℕ
+  trainees_put = lines_by (λ i. write_trainee i (list_in h e (trainee_start i))) 1 n
 
-module _ (g : ℕ → Order) (n k : ℕ) where
-  pub orders-more : k < n → write_orders (run g (n - k) k) ≡ write_order (g k) ++ write_orders (run g (n - (k + 1)) (k + 1))
-  unfolding write_orders
-  orders-more h = rw (run_more g n k h)
+  abbrev pub depots_put : List ℕ
+  depots_put = lines_by (λ j. write_depot j (depot_in h e (depot_start n j))) 1 m
 
-  pub orders-done : n ≤ k → write_orders (run g (n - k) k) ≡ []
-  unfolding write_orders
-  orders-done h = rw (run-done g n k h)
+  abbrev pub orders_put : List ℕ
+  orders_put = lines_by (λ k. write_order (order_in o (order_start k))) 0 c
 
--- and one over 0 to n - 1
-pub orders-from-0 : (g : ℕ → Order) (n : ℕ) → write_orders (run g n 0) ≡ write_orders (run g (n - 0) 0)
-orders-from-0 g n = let e : n - 0 ≡ n = omega arith in rw e refl
+  pub text-put : write_line word_placement (1 ∷ n ∷ m ∷ []) ++ trainees_put ++ depots_put ++ orders_put ++ write_end ≡ text_in h e o n m c
+  unfolding text_in
+  text-put =
+      rw (
+        head-line n m,
+        run-lines write_trainee (λ i. list_in h e (trainee_start i)) 1 n,
+        run-lines write_depot (λ j. depot_in h e (depot_start n j)) 1 m,
+        run-orders (λ k. order_in o (order_start k)) 0 c,
+      ) refl

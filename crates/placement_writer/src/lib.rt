@@ -16,7 +16,7 @@ ghost use Rattle.placement_text.specs.Writer.{write_received, write_list, write_
 ghost use Rattle.placement_writer.specs.Held.{number_in, received_in, list_in, depot_in, kind_given, order_in, run, ListRoom};
 ghost use Rattle.placement_writer.specs.Writing.{writes, writing_of};
 
-use fields::pen::Pen;
+use fields::pen::{Lines, Pen};
 use meaning::{Fault, Refusal};
 use tables::Kind;
 
@@ -44,16 +44,25 @@ fn put_list(heads: &[u16], entries: &[u16], cells: usize, pen: &mut Pen)
     }
 }
 
-// The line of trainee i.
-#[tactic(auto, unfolding(placement_text::specs::Writer::write_trainee))]
-fn put_trainee(heads: &[u16], entries: &[u16], i: usize, pen: &mut Pen)
-    requires { (i ≤ 256) × ListRoom heads.now entries.now (trainee_start i) × Room pen.old (write_trainee i (list_in heads.now entries.now (trainee_start i))) }
-    ensures { Wrote pen.old pen.new (write_trainee i (list_in heads.now entries.now (trainee_start i))) }
-{
-    pen.word(b"T");
-    pen.number(i as u16);
-    put_list(heads, entries, tables::trainee_at(i), pen);
-    pen.byte(b'\n');
+// The trainees, by their numbers.
+#[derive(Clone, Copy)]
+struct TraineeLines<'a> {
+    heads: &'a [u16],
+    entries: &'a [u16],
+}
+
+impl Lines for TraineeLines<'_> {
+    ghost line = { λ s i. write_trainee i (list_in s.heads.now s.entries.now (trainee_start i)) };
+
+    ghost there = { λ s i. (i ≤ 256) × ListRoom s.heads.now s.entries.now (trainee_start i) };
+
+    #[tactic(auto, unfolding(placement_text::specs::Writer::write_trainee))]
+    fn put(&self, i: usize, pen: &mut Pen) {
+        pen.word(b"T");
+        pen.number(i as u16);
+        put_list(self.heads, self.entries, tables::trainee_at(i), pen);
+        pen.byte(b'\n');
+    }
 }
 
 // The posts of the depot whose cells stand at `cells`, or `?`.
@@ -64,17 +73,29 @@ fn put_posts(heads: &[u16], cells: usize, pen: &mut Pen)
     put_received(tables::posts_of(heads, cells), pen);
 }
 
-// The line of depot j, whose cells stand at `cells`.
-#[tactic(auto, unfolding(placement_text::specs::Writer::write_depot, crate::specs::Held::depot_in))]
-fn put_depot(heads: &[u16], entries: &[u16], cells: usize, j: usize, pen: &mut Pen)
-    requires { (j ≤ 64) × (cells + 2 < length heads.now) × ListRoom heads.now entries.now cells × Room pen.old (write_depot j (depot_in heads.now entries.now cells)) }
-    ensures { Wrote pen.old pen.new (write_depot j (depot_in heads.now entries.now cells)) }
-{
-    pen.word(b"D");
-    pen.number(j as u16);
-    put_posts(heads, cells, pen);
-    put_list(heads, entries, cells, pen);
-    pen.byte(b'\n');
+// The depots, by their numbers; their cells stand behind those of the trainees.
+#[derive(Clone, Copy)]
+struct DepotLines<'a> {
+    heads: &'a [u16],
+    entries: &'a [u16],
+    trainees: usize,
+    ghost fits: { (i : ℕ) → get_or heads.now i 0 < 65536 },
+}
+
+impl Lines for DepotLines<'_> {
+    ghost line = { λ s j. write_depot j (depot_in s.heads.now s.entries.now (depot_start s.trainees j)) };
+
+    ghost there = { λ s j. (j ≤ 64) × (s.trainees ≤ 256) × (depot_start s.trainees j + 2 < length s.heads.now) × ListRoom s.heads.now s.entries.now (depot_start s.trainees j) };
+
+    #[tactic(auto, unfolding(placement_text::specs::Writer::write_depot, crate::specs::Held::depot_in))]
+    fn put(&self, j: usize, pen: &mut Pen) {
+        let cells = tables::depot_at(self.trainees, j);
+        pen.word(b"D");
+        pen.number(j as u16);
+        put_posts(self.heads, cells, pen);
+        put_list(self.heads, self.entries, cells, pen);
+        pen.byte(b'\n');
+    }
 }
 
 // The word of an order of a kind.
@@ -88,53 +109,25 @@ fn kind_word(kind: Option<Kind>) -> &'static [u8]
     }
 }
 
-// The line of the pair whose cells stand at `cells`.
-fn put_order(orders: &[u16], cells: usize, pen: &mut Pen)
-    requires { (cells + 2 < length orders.now) × Room pen.old (write_order (order_in orders.now cells)) }
-    ensures { Wrote pen.old pen.new (write_order (order_in orders.now cells)) }
-{
-    let word = kind_word(tables::order_kind(orders, cells));
-    let trainee = tables::order_trainee(orders, cells) as u16;
-    let depot = tables::order_depot(orders, cells) as u16;
-    pen.line(word, &[trainee, depot]);
+// The held and barred pairs, by how many stand before.
+#[derive(Clone, Copy)]
+struct OrderLines<'a> {
+    orders: &'a [u16],
+    ghost fits: { (i : ℕ) → get_or orders.now i 0 < 65536 },
 }
 
-// The lines of n trainees.
-fn put_trainees(heads: &[u16], entries: &[u16], n: usize, pen: &mut Pen)
-    requires { (n ≤ 256) × ((i : ℕ) → In n i → ListRoom heads.now entries.now (trainee_start i)) × Room pen.old (write_lines write_trainee 1 (run (λ i. list_in heads.now entries.now (trainee_start i)) n 1)) }
-    ensures { Wrote pen.old pen.new (write_lines write_trainee 1 (run (λ i. list_in heads.now entries.now (trainee_start i)) n 1)) }
-{
-    for i in 1..n + 1 {
-        put_trainee(heads, entries, i, pen);
+impl Lines for OrderLines<'_> {
+    ghost line = { λ s k. write_order (order_in s.orders.now (order_start k)) };
+
+    ghost there = { λ s k. (k ≤ 1024) × (order_start k + 2 < length s.orders.now) };
+
+    fn put(&self, k: usize, pen: &mut Pen) {
+        let cells = tables::order_at(k);
+        let word = kind_word(tables::order_kind(self.orders, cells));
+        let trainee = tables::order_trainee(self.orders, cells) as u16;
+        let depot = tables::order_depot(self.orders, cells) as u16;
+        pen.line(word, &[trainee, depot]);
     }
-}
-
-// The lines of m depots, whose cells stand behind those of n trainees.
-fn put_depots(heads: &[u16], entries: &[u16], n: usize, m: usize, pen: &mut Pen)
-    requires { (n ≤ 256) × (m ≤ 64) × (3 + 2 * n + 3 * m ≤ length heads.now) × ((j : ℕ) → In m j → ListRoom heads.now entries.now (depot_start n j)) × Room pen.old (write_lines write_depot 1 (run (λ j. depot_in heads.now entries.now (depot_start n j)) m 1)) }
-    ensures { Wrote pen.old pen.new (write_lines write_depot 1 (run (λ j. depot_in heads.now entries.now (depot_start n j)) m 1)) }
-{
-    for j in 1..m + 1 {
-        put_depot(heads, entries, tables::depot_at(n, j), j, pen);
-    }
-}
-
-// The lines of the first `count` pairs.
-fn put_orders(orders: &[u16], count: usize, pen: &mut Pen)
-    requires { (count ≤ 1024) × (1 + 3 * count ≤ length orders.now) × Room pen.old (write_orders (run (λ k. order_in orders.now (order_start k)) count 0)) }
-    ensures { Wrote pen.old pen.new (write_orders (run (λ k. order_in orders.now (order_start k)) count 0)) }
-{
-    for k in 0..count {
-        put_order(orders, tables::order_at(k), pen);
-    }
-}
-
-// The first line.
-fn put_head(n: usize, m: usize, pen: &mut Pen)
-    requires { (n ≤ 256) × (m ≤ 64) × Room pen.old (write_head 1 n m) }
-    ensures { Wrote pen.old pen.new (write_head 1 n m) }
-{
-    pen.line(b"placement", &[1, n as u16, m as u16]);
 }
 
 // The whole text of the placement that the tables hold.
@@ -146,10 +139,15 @@ fn put_text(heads: &[u16], entries: &[u16], orders: &[u16], out: &mut [u8]) -> u
     let m = tables::depots_of(heads);
     let count = tables::orders_of(orders);
     let mut pen = Pen { out, at: 0 };
-    put_head(n, m, &mut pen);
-    put_trainees(heads, entries, n, &mut pen);
-    put_depots(heads, entries, n, m, &mut pen);
-    put_orders(orders, count, &mut pen);
+    pen.line(b"placement", &[1, n as u16, m as u16]);
+    pen.lines(&TraineeLines { heads, entries }, 1, n);
+    let depots = DepotLines {
+        heads,
+        entries,
+        trainees: n,
+    };
+    pen.lines(&depots, 1, m);
+    pen.lines(&OrderLines { orders }, 0, count);
     pen.word(b"end\n");
     pen.at
 }

@@ -1,6 +1,6 @@
 -- Strikes in cells, four by four: how many cells they take, where the cells of one stand, and that cells that hold strikes say these.
 -- Assumes nothing.
-use Prim.Native.Nat.{ℕ, zero, suc, ◌+◌, ◌-◌, ◌*◌, ◌≤◌, ◌<◌}
+use Prim.Native.Nat.{ℕ, zero, suc, ◌+◌, ◌*◌, ◌≤◌, ◌<◌}
 use mathlib.Core.Path.{◌≡◌, refl, sym, ap, ◌∙◌}
 use mathlib.Core.List.{List, [], ◌∷◌, ◌++◌}
 use native.Mathlib.Omega.{arith}
@@ -8,10 +8,11 @@ use lib.ListN.{length, get_or, take, drop, take-append-drop, length-take, length
 use lib.Seq.{take-append-le, drop-append-le}
 use Rattle.meaning.specs.Answers.{strike_numbers}
 use Rattle.meaning.specs.declared.Strike.{Strike}
-use Rattle.fields.specs.Writer.{write_line}
+use Rattle.fields.specs.Writer.{write_line, write_lines, lines_by}
+use Rattle.fields.proofs.Pens.{by-lines}
 use Rattle.ruling_text.specs.Words.{word_S}
 use Rattle.ruling_text.specs.Writer.{write_strike}
-use Rattle.ruling_text.specs.Cells.{joined, strike_cells, strikes_from, strikes_in}
+use Rattle.ruling_text.specs.Cells.{joined, strike_cells, strike_at, strikes_from, strikes_in}
 
 pub quads-length : (xs : List Strike) → length (strike_cells xs) ≡ 4 * length xs
 unfolding strike_cells joined strike_numbers
@@ -57,9 +58,12 @@ module _ (cells : List ℕ) (count : ℕ) (e : strike_cells (strikes_in cells co
       ∙ quad_at xs i d (omega (arith, strikes-length cells count))
 
   -- the line of strike i is a word and its cells
-  pub held-line : (k i : ℕ) (d : Strike) → i < count
-      → write_line word_S (take (4 * i + 4 - 4 * i) (drop (4 * i) cells)) ≡ write_strike k (get_or (strikes_in cells count) i d)
+  pub held-lines : lines_by (λ i. write_line word_S (take 4 (drop (4 * i) cells))) 0 count ≡ write_lines write_strike 1 (strikes_in cells count)
   unfolding write_strike
-  held-line k i d h =
-      let n : 4 * i + 4 - 4 * i ≡ 4 = omega arith in
-      ap (write_line word_S) (ap (λ z. take z (drop (4 * i) cells)) n ∙ held-quad i d h)
+  held-lines =
+      let d = strike_at cells 0 in
+      let xs : List Strike = strikes_in cells count in
+      ap (lines_by (λ i. write_line word_S (take 4 (drop (4 * i) cells))) 0) (sym (strikes-length cells count))
+      ∙ by-lines write_strike (λ i. write_line word_S (take 4 (drop (4 * i) cells))) d xs 1 0 (λ j h.
+      let e : 0 + j ≡ j = omega arith in
+      rw e (ap (write_line word_S) (held-quad j d (omega (arith, strikes-length cells count)))))

@@ -1,21 +1,22 @@
 // The ruling text on plain cells: four cells to a strike (trainee, depot, the reason's number, witness), one cell of the table to a trainee.
 #![tactic(auto)]
 
-ghost use Rattle.std.specs.Prelude.{◌≡◌, ◌∷◌, [], ◌+◌, ◌*◌, ◌≤◌, length, take, drop};
+ghost use Rattle.std.specs.Prelude.{get_or, ◌<◌, ◌≡◌, ◌∷◌, [], ◌+◌, ◌*◌, ◌≤◌, length, take, drop};
 ghost use Rattle.std.proofs.lemmas.List.Edits.{sets};
 ghost use Rattle.fields.specs.Leaves.{StepRead, LinesRead, Put};
 ghost use Rattle.fields.specs.Pen.{Room, Wrote};
 ghost use Rattle.fields.specs.Reader.{lines};
-ghost use Rattle.fields.specs.Writer.{write_lines};
+ghost use Rattle.fields.specs.Writer.{write_line};
+ghost use Rattle.ruling_text.specs.Words.{word_S};
 ghost use Rattle.rulings.specs.Legal.{LegalOutcome};
 ghost use Rattle.meaning.specs.Answers.{strike_numbers};
 ghost use Rattle.meaning.specs.Solver.{ending_of};
 ghost use Rattle.ruling_text.specs.Reader.{pair, low_witness, high_witness, reason, strike_fields, strike_line, cell_fields, cell_line, weightless, none_of, none_fields, outcome, end_fields, finish, conclusion, body, sizes, head_fields, read_ruling};
 ghost use Rattle.ruling_text.specs.Code.{pair_numbers, reason_numbers, cell_numbers, head_of_sizes, NumbersRead, HeadRead, RowsRead, NoneRead, ConclusionRead, placed_or, BodyRead, TextRead, answered, answered_by};
-ghost use Rattle.ruling_text.specs.Writer.{write_strike, write_cell, write_outcome, ruling_text};
-ghost use Rattle.ruling_text.specs.Cells.{strike_cells, strikes_in, outcome_in, ruling_in, Held};
+ghost use Rattle.ruling_text.specs.Writer.{write_cell, write_outcome, ruling_text};
+ghost use Rattle.ruling_text.specs.Cells.{outcome_in, ruling_in, Held};
 
-use fields::pen::Pen;
+use fields::pen::{Lines, Pen};
 use fields::{Cursor, Misread, Wrong};
 use meaning::{Ending, Fault, Ruling};
 
@@ -281,24 +282,37 @@ pub fn read_cells(s: &[u8], table: &mut [u16], cells: &mut [u16]) -> Result<Ruli
     Ok(ruling)
 }
 
-// The lines of the strikes in `cells`.
-fn put_strikes(cells: &[u16], count: usize, pen: &mut Pen)
-    requires { (strike_cells (strikes_in cells.now count) ≡ take (4 * count) cells.now) × Room pen.old (write_lines write_strike 1 (strikes_in cells.now count)) }
-    ensures { Wrote pen.old pen.new (write_lines write_strike 1 (strikes_in cells.now count)) }
-{
-    for i in 0..count {
+// Strikes in cells, four to each.
+#[derive(Clone, Copy)]
+struct StrikeLines<'a> {
+    cells: &'a [u16],
+}
+
+impl Lines for StrikeLines<'_> {
+    ghost line = { λ s i. write_line word_S (take 4 (drop (4 * i) s.cells.now)) };
+
+    ghost there = { λ s i. 4 * i + 4 ≤ length s.cells.now };
+
+    fn put(&self, i: usize, pen: &mut Pen) {
         let from = 4 * i;
-        pen.line(b"S", &cells[from..from + 4]);
+        pen.line(b"S", &self.cells[from..from + 4]);
     }
 }
 
-// The lines of a table's cells.
-fn put_table(table: &[u16], pen: &mut Pen)
-    requires { (length table.now ≤ 256) × Room pen.old (write_lines write_cell 1 table.now) }
-    ensures { Wrote pen.old pen.new (write_lines write_cell 1 table.now) }
-{
-    for (i, depot) in table.iter().enumerate() {
-        pen.line(b"A", &[(i + 1) as u16, *depot]);
+// A table: the depot of each trainee.
+#[derive(Clone, Copy)]
+struct CellLines<'a> {
+    table: &'a [u16],
+}
+
+impl Lines for CellLines<'_> {
+    ghost line = { λ s i. write_cell (i + 1) (get_or s.table.now i 0) };
+
+    ghost there = { λ s i. (i < 256) × (i < length s.table.now) };
+
+    #[tactic(auto, unfolding(crate::specs::Writer::write_cell))]
+    fn put(&self, i: usize, pen: &mut Pen) {
+        pen.line(b"A", &[(i + 1) as u16, self.table[i]]);
     }
 }
 
@@ -308,7 +322,7 @@ fn put_outcome(n: usize, ending: Ending, table: &[u16], pen: &mut Pen)
     ensures { Wrote pen.old pen.new (write_outcome (outcome_in n ending table.now)) }
 {
     match ending {
-        Ending::Placed => put_table(&table[..n], pen),
+        Ending::Placed => pen.lines(&CellLines { table }, 0, n),
         Ending::NoneHeld(i, j) => pen.line(b"N", &[1, i, j]),
         Ending::NoneRoom(i, j) => pen.line(b"N", &[2, i, j]),
     }
@@ -321,7 +335,7 @@ pub fn put_ruling(ruling: Ruling, table: &[u16], cells: &[u16], out: &mut [u8]) 
 {
     let mut pen = Pen { out, at: 0 };
     pen.line(b"ruling", &[1, ruling.trainees, ruling.strikes]);
-    put_strikes(cells, ruling.strikes as usize, &mut pen);
+    pen.lines(&StrikeLines { cells }, 0, ruling.strikes as usize);
     put_outcome(ruling.trainees as usize, ruling.ending, table, &mut pen);
     pen.word(b"end\n");
     pen.at

@@ -14,7 +14,7 @@ returns-in_err-base c =
 pub depot_lines-requires : goal.depot_lines-requires
 depot_lines-requires c =
     let z = c.args.sizes in
-    let h = first_three c.args.h.now c.trainee_lines.new.h 1 z.trainees z.depots c.trainee_lines.auto.h in
+    let h = first_three c.args.h.now c.trainee_lines.new.h _ _ _ c.trainee_lines.auto.h in
     omega (arith, base-few z.trainees z.depots _ c.args.h.now c.in_ok-base.ensures)
 
 pub returns-in_err-total : goal.returns-in_err-total

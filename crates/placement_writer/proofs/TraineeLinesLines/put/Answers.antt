@@ -1,7 +1,7 @@
 -- The parts of the line one after the other.
 use Rattle.fields.proofs.Pens.{wrote_then}
 use Rattle.placement_text.specs.Writer.{write_trainee}
-use Rattle.placement_writer.proofs.put_trainee.Goals as goal
+use Rattle.placement_writer.proofs.TraineeLinesLines.put.Goals as goal
 
 pub returns : goal.returns
 unfolding write_trainee
