@@ -1,18 +1,19 @@
 // The lent tables: what their cells hold, and what can be read from them.
 #![tactic(auto)]
 
-ghost use Rattle.std.specs.Prelude.{◌≡◌, not, false, List, [], ℕ, ◌+◌, ◌-◌, ◌*◌, ◌≤◌, ◌<◌, length, get_or, drop};
+ghost use Rattle.std.specs.Prelude.{◌≡◌, not, false, List, [], ℕ, ◌+◌, ◌-◌, ◌*◌, ◌≤◌, ◌<◌, length, get_or, drop, true, MatchResult};
 ghost use Rattle.std.proofs.Math.Option.{some};
 ghost use Rattle.meaning.specs.Numbers.{◌&◌};
 ghost use Rattle.meaning.specs.Lists.{weigh};
-ghost use Rattle.meaning.specs.Placement.{size};
+ghost use Rattle.meaning.specs.Placement.{Placement, size};
+ghost use Rattle.meaning.specs.Full.{full};
 ghost use Rattle.tables.specs.Cells.{CellGives, trainee_start, depot_start, order_start, part, HeadRoom};
 ghost use Rattle.tables.specs.Decode.{within, good_entries, posts_from, trainee_from, order_from, orders_from, series_from, limits, Sides, lists_from, sides_of, few_orders_of, placement_of};
 ghost use Rattle.tables.specs.Answers.{sized, full_sides, LineOf, said_by, receipt_of, trainee_list, trainee_receipt};
 ghost use Rattle.tables.specs.Kinds.{Stands, KindGives};
 ghost use Rattle.tables.specs.Walk.{is_some, end_of, Ends, all_posts, trainee_missing, depot_missing};
 
-use meaning::{Receipt, Refusal};
+use meaning::{Fault, Receipt, Refusal};
 
 // What an order says of its pair.
 #[derive(Clone, Copy, PartialEq, Eq)]
@@ -372,6 +373,85 @@ pub fn sizes_ok(heads: &[u16], entries: &[u16], orders: &[u16]) -> bool
     ensures { result ≡ sized heads.now entries.now orders.now }
 {
     707 <= heads.len() && 8192 <= entries.len() && 3073 <= orders.len()
+}
+
+// The three tables that a caller lends, each of its full size.
+#[derive(Clone, Copy)]
+pub struct Lent<'a> {
+    pub heads: &'a [u16],
+    pub entries: &'a [u16],
+    pub orders: &'a [u16],
+    pub ghost sized: { sized heads.now entries.now orders.now ≡ true },
+}
+
+impl<'a> Lent<'a> {
+    // The tables, or number 1 where one of them is too short.
+    pub fn new(heads: &'a [u16], entries: &'a [u16], orders: &'a [u16]) -> Result<Self, Fault>
+        ensures { MatchResult result (λ t. (t.heads.now ≡ heads.now) × (t.entries.now ≡ entries.now) × (t.orders.now ≡ orders.now))
+            (λ f. (f ≡ Fault.ShortPart) × (sized heads.now entries.now orders.now ≡ false)) }
+    {
+        if !sizes_ok(heads, entries, orders) {
+            return Err(Fault::ShortPart);
+        }
+        Ok(Lent {
+            heads,
+            entries,
+            orders,
+        })
+    }
+}
+
+// Lent tables whose used cells a reader could have filled.
+#[derive(Clone, Copy)]
+pub struct Held<'a> {
+    pub heads: &'a [u16],
+    pub entries: &'a [u16],
+    pub orders: &'a [u16],
+    pub ghost sized: { sized heads.now entries.now orders.now ≡ true },
+    pub ghost held: { is_some (placement_of heads.now entries.now orders.now) ≡ true },
+}
+
+impl<'a> Held<'a> {
+    // The tables, or number 8 where no reader could have filled their used cells.
+    pub fn new(lent: Lent<'a>) -> Result<Self, Fault>
+        ensures { MatchResult result (λ t. (t.heads.now ≡ lent.entry.heads.now) × (t.entries.now ≡ lent.entry.entries.now) × (t.orders.now ≡ lent.entry.orders.now))
+            (λ f. (f ≡ Fault.NotRead) × (is_some (placement_of lent.entry.heads.now lent.entry.entries.now lent.entry.orders.now) ≡ false)) }
+    {
+        let Lent {
+            heads,
+            entries,
+            orders,
+        } = lent;
+        if !used_cells_ok(heads, entries, orders) {
+            return Err(Fault::NotRead);
+        }
+        Ok(Held {
+            heads,
+            entries,
+            orders,
+        })
+    }
+
+    // The number of trainees.
+    pub fn trainees(&self) -> usize
+        ensures { result ≡ get_or self.now.heads.now 1 0 }
+    {
+        trainees_of(self.heads)
+    }
+
+    // The number of depots.
+    pub fn depots(&self) -> usize
+        ensures { result ≡ get_or self.now.heads.now 2 0 }
+    {
+        depots_of(self.heads)
+    }
+
+    // The line that number 7 gives; none where all was received.
+    pub fn missing_line(&self) -> Option<u16>
+        ensures { (p : Placement) → placement_of self.now.heads.now self.now.entries.now self.now.orders.now ≡ some p → LineOf (full p) result }
+    {
+        first_missing_line(self.heads)
+    }
 }
 
 // What tells an empty list from none, for heads that hold a placement's, whatever the entries beside them.
