@@ -234,24 +234,28 @@ fn list_end(heads: &[u16], entries: &[u16], at: usize, s: usize, hi: usize) -> O
     }
 }
 
-// Where the last of `count` lists ends, whose cells stand from `first` on, `wide` of them for each, and whose entries start at `start`.
-fn lists_end(
-    heads: &[u16],
-    entries: &[u16],
+// Where the cells of one side's lists stand in the heads, `wide` of them for each, and up to whom the lists name.
+#[derive(Clone, Copy)]
+struct Side {
     first: usize,
     wide: usize,
     count: usize,
-    start: usize,
-    hi: usize,
-) -> Option<usize>
-    requires { (2 ≤ wide) × (wide ≤ 3) × (first + wide * count ≤ length heads.now) × (count ≤ 256) × (start ≤ length entries.now) × (hi ≤ 256) }
-    ensures { Ends (length entries.now) (end_of (weigh size) start (series_from (trainee_from hi) size wide count start (drop first heads.now) (drop start entries.now))) result }
-{
-    let mut s = start;
-    for k in 0..count {
-        s = list_end(heads, entries, first + wide * k, s, hi)?;
+    named: usize,
+    ghost limits: { (2 ≤ wide) × (wide ≤ 3) × (count ≤ 256) × (named ≤ 256) },
+}
+
+impl Side {
+    // Where the last of the lists ends, if the entries of the first start at `start`.
+    fn end(self, heads: &[u16], entries: &[u16], start: usize) -> Option<usize>
+        requires { (self.first + self.wide * self.count ≤ length heads.now) × (start ≤ length entries.now) }
+        ensures { Ends (length entries.now) (end_of (weigh size) start (series_from (trainee_from self.named) size self.wide self.count start (drop self.first heads.now) (drop start entries.now))) result }
+    {
+        let mut s = start;
+        for k in 0..self.count {
+            s = list_end(heads, entries, self.first + self.wide * k, s, self.named)?;
+        }
+        Some(s)
     }
-    Some(s)
 }
 
 // Whether the posts of the depot whose cells stand at `at` are in range, or not received.
@@ -282,10 +286,22 @@ fn lists_ok(heads: &[u16], entries: &[u16], n: usize, m: usize) -> bool
     requires { (707 ≤ length heads.now) × (n ≤ 256) × (m ≤ 64) }
     ensures { result ≡ is_some (lists_from (get_or heads.now 0 0) n m (drop 3 heads.now) entries.now) }
 {
-    let Some(s) = lists_end(heads, entries, 3, 2, n, 0, m) else {
+    let trainees = Side {
+        first: 3,
+        wide: 2,
+        count: n,
+        named: m,
+    };
+    let depots = Side {
+        first: 3 + 2 * n,
+        wide: 3,
+        count: m,
+        named: n,
+    };
+    let Some(s) = trainees.end(heads, entries, 0) else {
         return false;
     };
-    let Some(f) = lists_end(heads, entries, 3 + 2 * n, 3, m, s, n) else {
+    let Some(f) = depots.end(heads, entries, s) else {
         return false;
     };
     s <= 4096 && f - s <= 4096 && all_posts_ok(heads, n, m)
