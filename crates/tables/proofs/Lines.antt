@@ -2,7 +2,7 @@
 -- Assumes nothing.
 use Prim.Native.Nat.{ℕ, zero, suc, ◌+◌, ◌≤◌, ◌<◌}
 use mathlib.Core.Path.{◌≡◌, refl, sym, ap, ap₂, ◌∙◌, subst}
-use mathlib.Core.Bool.{Bool, true, false}
+use mathlib.Core.Bool.{Bool, true, false, false≢true}
 use mathlib.Core.Option.{Option, none, some}
 use mathlib.Core.List.{List, [], ◌∷◌, ◌++◌}
 use native.Mathlib.Omega.{arith}
@@ -26,11 +26,11 @@ use Rattle.meaning.specs.Placement.{Placement, depot, LegalList, no_list, a_list
 use Rattle.meaning.specs.Lists.{Each, each_none, each_more}
 use Rattle.meaning.specs.Full.{Full, Received, whole, lacking, full, is_not_received, depot_lacks, lines_where, lacking_lines}
 use Rattle.meaning.proofs.Full.{Lines, none-lack, first-lacks, full-lines}
-use Rattle.tables.specs.Cells.{missing_cell, length_cell, posts_cell, trainee_start, depot_start}
+use Rattle.tables.specs.Cells.{HeadRoom, missing_cell, length_cell, posts_cell, trainee_start, depot_start}
 use Rattle.tables.specs.Decode.{Sides, sides_of, placement_with, placement_of}
 use Rattle.tables.specs.Answers.{full_sides, lacking_line, LineOf}
-use Rattle.tables.specs.Walk.{first_line, trainee_missing, depot_missing}
-use Rattle.tables.proofs.Seen.{ListSeen, SidesSeen}
+use Rattle.tables.specs.Walk.{is_some, first_line, trainee_missing, depot_missing}
+use Rattle.tables.proofs.Seen.{ListSeen, SidesSeen, sides-seen}
 use Rattle.tables.proofs.Round.{parts}
 
 -- ---- the loop
@@ -184,6 +184,14 @@ full-sides h e o p k = ap full (sym (parts h e o p k).is)
 pub record IsWhole {A : Type 0} (r : Received A) : Type 0 where
   pub value : A
   pub here : r ≡ whole value
+
+-- heads that hold a placement have room for everyone
+pub held-room : (h e o : List ℕ) → is_some (placement_of h e o) ≡ true → HeadRoom h
+held-room h e o k = go (placement_of h e o) refl k
+  where
+    go : (q : Option Placement) → placement_of h e o ≡ q → is_some q ≡ true → HeadRoom h
+    go none x t = absurd (false≢true t)
+    go (some p) x t = let q = parts h e o p x in (sides-seen h e q.sides q.sides-of).room
 
 -- what the heads tell of every placement that they hold
 pub of-placement : (h e o : List ℕ) (p : Placement) (k : placement_of h e o ≡ some p) (line : Answer ℕ)

@@ -1,11 +1,12 @@
 // The lent tables: what their cells hold, and what can be read from them.
 #![tactic(auto)]
 
-ghost use Rattle.std.specs.Prelude.{◌≡◌, not, false, List, [], ℕ, ◌+◌, ◌-◌, ◌*◌, ◌≤◌, ◌<◌, length, get_or, drop, Result, Ok};
+ghost use Rattle.std.specs.Prelude.{◌≡◌, not, false, true, List, [], ℕ, ◌+◌, ◌-◌, ◌*◌, ◌≤◌, ◌<◌, length, get_or, drop, MatchResult, Result, Ok};
 ghost use Rattle.std.proofs.Math.Option.{some};
 ghost use Rattle.meaning.specs.Numbers.{◌&◌};
 ghost use Rattle.meaning.specs.Lists.{weigh};
-ghost use Rattle.meaning.specs.Placement.{size};
+ghost use Rattle.meaning.specs.Placement.{Placement, size};
+ghost use Rattle.meaning.specs.Full.{full};
 ghost use Rattle.tables.specs.Cells.{CellGives, trainee_start, depot_start, order_start, part, HeadRoom};
 ghost use Rattle.tables.specs.Decode.{within, good_entries, posts_from, trainee_from, order_from, orders_from, series_from, limits, Sides, lists_from, sides_of, few_orders_of, placement_of};
 ghost use Rattle.tables.specs.Answers.{sized, full_sides, LineOf, said_by, receipt_of, trainee_list, trainee_receipt};
@@ -233,24 +234,28 @@ fn list_end(heads: &[u16], entries: &[u16], at: usize, s: usize, hi: usize) -> O
     }
 }
 
-// Where the last of `count` lists ends, whose cells stand from `first` on, `wide` of them for each, and whose entries start at `start`.
-fn lists_end(
-    heads: &[u16],
-    entries: &[u16],
+// Where the cells of one side's lists stand in the heads, `wide` of them for each, and up to whom the lists name.
+#[derive(Clone, Copy)]
+struct Side {
     first: usize,
     wide: usize,
     count: usize,
-    start: usize,
-    hi: usize,
-) -> Option<usize>
-    requires { (2 ≤ wide) × (wide ≤ 3) × (first + wide * count ≤ length heads.now) × (count ≤ 256) × (start ≤ length entries.now) × (hi ≤ 256) }
-    ensures { Ends (length entries.now) (end_of (weigh size) start (series_from (trainee_from hi) size wide count start (drop first heads.now) (drop start entries.now))) result }
-{
-    let mut s = start;
-    for k in 0..count {
-        s = list_end(heads, entries, first + wide * k, s, hi)?;
+    named: usize,
+    ghost limits: { (2 ≤ wide) × (wide ≤ 3) × (count ≤ 256) × (named ≤ 256) },
+}
+
+impl Side {
+    // Where the last of the lists ends, if the entries of the first start at `start`.
+    fn end(self, heads: &[u16], entries: &[u16], start: usize) -> Option<usize>
+        requires { (self.first + self.wide * self.count ≤ length heads.now) × (start ≤ length entries.now) }
+        ensures { Ends (length entries.now) (end_of (weigh size) start (series_from (trainee_from self.named) size self.wide self.count start (drop self.first heads.now) (drop start entries.now))) result }
+    {
+        let mut s = start;
+        for k in 0..self.count {
+            s = list_end(heads, entries, self.first + self.wide * k, s, self.named)?;
+        }
+        Some(s)
     }
-    Some(s)
 }
 
 // Whether the posts of the depot whose cells stand at `at` are in range, or not received.
@@ -281,10 +286,22 @@ fn lists_ok(heads: &[u16], entries: &[u16], n: usize, m: usize) -> bool
     requires { (707 ≤ length heads.now) × (n ≤ 256) × (m ≤ 64) }
     ensures { result ≡ is_some (lists_from (get_or heads.now 0 0) n m (drop 3 heads.now) entries.now) }
 {
-    let Some(s) = lists_end(heads, entries, 3, 2, n, 0, m) else {
+    let trainees = Side {
+        first: 3,
+        wide: 2,
+        count: n,
+        named: m,
+    };
+    let depots = Side {
+        first: 3 + 2 * n,
+        wide: 3,
+        count: m,
+        named: n,
+    };
+    let Some(s) = trainees.end(heads, entries, 0) else {
         return false;
     };
-    let Some(f) = lists_end(heads, entries, 3 + 2 * n, 3, m, s, n) else {
+    let Some(f) = depots.end(heads, entries, s) else {
         return false;
     };
     s <= 4096 && f - s <= 4096 && all_posts_ok(heads, n, m)
@@ -372,6 +389,85 @@ pub fn sizes_ok(heads: &[u16], entries: &[u16], orders: &[u16]) -> bool
     ensures { result ≡ sized heads.now entries.now orders.now }
 {
     707 <= heads.len() && 8192 <= entries.len() && 3073 <= orders.len()
+}
+
+// The three tables that a caller lends, each of its full size.
+#[derive(Clone, Copy)]
+pub struct Lent<'a> {
+    pub heads: &'a [u16],
+    pub entries: &'a [u16],
+    pub orders: &'a [u16],
+    pub ghost sized: { sized heads.now entries.now orders.now ≡ true },
+}
+
+impl<'a> Lent<'a> {
+    // The tables, or number 1 where one of them is too short.
+    pub fn new(heads: &'a [u16], entries: &'a [u16], orders: &'a [u16]) -> Result<Self, Fault>
+        ensures { MatchResult result (λ t. (t.heads.now ≡ heads.now) × (t.entries.now ≡ entries.now) × (t.orders.now ≡ orders.now))
+            (λ f. (f ≡ Fault.ShortPart) × (sized heads.now entries.now orders.now ≡ false)) }
+    {
+        if !sizes_ok(heads, entries, orders) {
+            return Err(Fault::ShortPart);
+        }
+        Ok(Lent {
+            heads,
+            entries,
+            orders,
+        })
+    }
+}
+
+// Lent tables whose used cells a reader could have filled.
+#[derive(Clone, Copy)]
+pub struct Held<'a> {
+    pub heads: &'a [u16],
+    pub entries: &'a [u16],
+    pub orders: &'a [u16],
+    pub ghost sized: { sized heads.now entries.now orders.now ≡ true },
+    pub ghost held: { is_some (placement_of heads.now entries.now orders.now) ≡ true },
+}
+
+impl<'a> Held<'a> {
+    // The tables, or number 8 where no reader could have filled their used cells.
+    pub fn new(lent: Lent<'a>) -> Result<Self, Fault>
+        ensures { MatchResult result (λ t. (t.heads.now ≡ lent.entry.heads.now) × (t.entries.now ≡ lent.entry.entries.now) × (t.orders.now ≡ lent.entry.orders.now))
+            (λ f. (f ≡ Fault.NotRead) × (is_some (placement_of lent.entry.heads.now lent.entry.entries.now lent.entry.orders.now) ≡ false)) }
+    {
+        let Lent {
+            heads,
+            entries,
+            orders,
+        } = lent;
+        if !used_cells_ok(heads, entries, orders) {
+            return Err(Fault::NotRead);
+        }
+        Ok(Held {
+            heads,
+            entries,
+            orders,
+        })
+    }
+
+    // The number of trainees.
+    pub fn trainees(&self) -> usize
+        ensures { result ≡ get_or self.now.heads.now 1 0 }
+    {
+        trainees_of(self.heads)
+    }
+
+    // The number of depots.
+    pub fn depots(&self) -> usize
+        ensures { result ≡ get_or self.now.heads.now 2 0 }
+    {
+        depots_of(self.heads)
+    }
+
+    // The line that number 7 gives; none where all was received.
+    pub fn missing_line(&self) -> Option<u16>
+        ensures { (p : Placement) → placement_of self.now.heads.now self.now.entries.now self.now.orders.now ≡ some p → LineOf (full p) result }
+    {
+        first_missing_line(self.heads)
+    }
 }
 
 // What tells an empty list from none, for heads that hold a placement's, whatever the entries beside them.

@@ -6,8 +6,8 @@ use Rattle.meaning.specs.Placement.{size}
 use Rattle.tables.specs.Decode.{trainee_from, series_from}
 use Rattle.tables.specs.Walk.{end_of}
 use Rattle.tables.proofs.Walk.{Left}
-use Rattle.tables.proofs.lists_end.Given as goal
+use Rattle.tables.proofs.Side.end.Given as goal
 
 abbrev pub invariant-loop-k : goal.invariant-loop-k
 invariant-loop-k l =
-    Left (trainee_from l.hi) size l.wide l.heads l.entries (end_of (weigh size) l.start (series_from (trainee_from l.hi) size l.wide l.count l.start (drop l.first l.heads) (drop l.start l.entries))) (l.first + l.wide * l.k) l.s (l.count - l.k)
+    Left (trainee_from l.self.named) size l.self.wide l.heads l.entries (end_of (weigh size) l.start (series_from (trainee_from l.self.named) size l.self.wide l.self.count l.start (drop l.self.first l.heads) (drop l.start l.entries))) (l.self.first + l.self.wide * l.k) l.s (l.self.count - l.k)
