@@ -1,6 +1,6 @@
 -- What the parts of a line say, by the cells.
 -- Assumes nothing.
-use Prim.Native.Nat.{ℕ, zero, suc, ◌+◌, ◌≤◌}
+use Prim.Native.Nat.{ℕ, zero, suc, ◌+◌, ◌≤◌, ◌<◌}
 use mathlib.Core.Path.{◌≡◌, refl, sym, ap, ap₂, ◌∙◌}
 use mathlib.Core.Option.{none, some}
 use Rattle.std.specs.Prelude.{Option as Answer, Some, None, IfSome}
