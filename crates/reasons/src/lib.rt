@@ -254,7 +254,7 @@ impl<'a> Orders<'a> {
         tables::order_depot(self.cells, tables::order_at(k))
     }
 
-    // Marks the pair of the order at k in the rows of its kind.
+    // Marks the pair of the order at k in the rows of its kind. The rows of both kinds stay two slices, since a struct of two &mut would promise more and say no more.
     fn note(&self, k: usize, holds: &mut [u64], bars: &mut [u64])
         requires { (k < get_or self.now.cells.now 0 0) × OrderRows self.now.market.heads.now holds.old bars.old }
         ensures { (holds.new ≡ mark_for (eqb (get_or self.now.cells.now (order_start k) 0) 0) holds.old (trainee_in self.now.cells.now k) (depot_in self.now.cells.now k))
