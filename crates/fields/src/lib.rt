@@ -100,6 +100,7 @@ impl<'a> Cursor<'a> {
     }
 
     // The word of the field k, after its tab.
+    #[tactic(auto, unfolding(crate::specs::Reader::field, crate::specs::Reader::first))]
     pub fn field(&mut self, k: usize) -> Result<&'a [u8], Wrong>
         ensures { WordRead (field k self.old.rest.now) self.new.rest.now result }
     {
@@ -108,6 +109,7 @@ impl<'a> Cursor<'a> {
     }
 
     // The number in the field k.
+    #[tactic(auto, unfolding(crate::specs::Reader::figure, crate::specs::Reader::formed))]
     pub fn figure(&mut self, k: usize) -> Result<u32, Wrong>
         ensures { StepRead (figure k self.old.rest.now) self.new.rest.now result }
     {
@@ -119,6 +121,7 @@ impl<'a> Cursor<'a> {
     }
 
     // The number of lo to hi in the field k.
+    #[tactic(auto, unfolding(crate::specs::Reader::number))]
     pub fn number(&mut self, k: usize, lo: u16, hi: u16) -> Result<u16, Wrong>
         ensures { StepRead (number k lo hi self.old.rest.now) self.new.rest.now result }
     {
@@ -133,6 +136,7 @@ impl<'a> Cursor<'a> {
     }
 
     // The number v in the field k: an edition, a running number.
+    #[tactic(auto, unfolding(crate::specs::Reader::running, crate::specs::Reader::unless))]
     pub fn running(&mut self, k: usize, v: u16) -> Result<(), Wrong>
         ensures { StepRead (running k v self.old.rest.now) self.new.rest.now result }
     {
@@ -147,6 +151,7 @@ impl<'a> Cursor<'a> {
     }
 
     // The end of a line in the place of the field k.
+    #[tactic(auto, unfolding(crate::specs::Reader::line_end))]
     pub fn line_end(&mut self, k: usize) -> Result<(), Wrong>
         ensures { StepRead (line_end k self.old.rest.now) self.new.rest.now result }
     {
@@ -170,6 +175,7 @@ impl<'a> Cursor<'a> {
     }
 
     // The word w and the running number i at the beginning of a line.
+    #[tactic(auto, unfolding(crate::specs::Reader::numbered))]
     pub fn numbered(&mut self, w: &[u8], i: u16) -> Result<(), Wrong>
         ensures { StepRead (numbered w.now i self.old.rest.now) self.new.rest.now result }
     {
