@@ -11,22 +11,19 @@ use native.Mathlib.Numerals.{add-one}
 use lib.ListN.{length, get_or, take, drop, drop_of_length-le}
 use lib.Seq.{drop-cons}
 use lib.Dec.{leb, ltb, eqb}
-use borrow.Author.Tests.{le-leb, lt-leb, ltb-false, eq-eqb, ne_eqb, not-true, not-false}
+use borrow.Author.Tests.{le-leb, lt-leb, ltb-false, ne_eqb, not-true, not-false}
 use lib.Pointwise.{pointwise}
-use Rattle.std.specs.Prelude.{nat_eq, Some, None, Result, Ok, Err}
-use Rattle.std.specs.Option.{unwrap_or, ok_or}
+use Rattle.std.specs.Prelude.{nat_eq, Some, None}
+use Rattle.std.specs.Option.{unwrap_or}
 use Rattle.std.specs.List.{position, position_or_len}
 use Rattle.std.proofs.lemmas.List.Sums.{prefix_len-le-length}
 use Rattle.meaning.specs.Numbers.{◌&◌}
-use Rattle.meaning.specs.declared.Fault.{Fault}
-use Rattle.fields.specs.declared.Wrong.{Wrong}
-use Rattle.fields.specs.Leaves.{num_of, ByteRead, StepRead}
 use Rattle.fields.specs.Bytes.{stop?, word_of, rest_of, same}
 use Rattle.fields.specs.Number.{digit?, value, leads, number_of}
-use Rattle.fields.specs.Reader.{got, refusal, first, field, line_end, keyword, figure, number, running, numbered, unless}
+use Rattle.fields.specs.Reader.{got, refusal, first, keyword, figure, number, unless}
 use Rattle.meaning.proofs.Booleans.{true-or-false}
 use Rattle.fields.proofs.Digits.{ten_to, digit-in}
-use Rattle.fields.proofs.Steps.{unless-there, unless_not, formed-there, formed-not}
+use Rattle.fields.proofs.Steps.{unless-there, unless_not}
 
 pub and-false : (a : Bool) → (a & false) ≡ false
 unfolding ◌&◌
@@ -139,50 +136,8 @@ number_digits (b ∷ c ∷ w) h f (inr n) = rw (ne_eqb b 48 n, le-leb (length (b
 
 -- ---- a byte, and what begins with it
 
-module _ (k : ℕ) where
-  pub field-no-tab : (q : List ℕ) → ((s : List ℕ) → q ≡ 9 ∷ s → ⊥) → field k q ≡ refusal 3 0 k
-  unfolding field
-  field-no-tab [] n = refl
-  field-no-tab (b ∷ s) n = rw (ne_eqb b 9 (λ e. n s (ap (λ z. z ∷ s) e)), field)
-
-  pub field-word : {q s : List ℕ} → q ≡ 9 ∷ s → field k q ≡ got (word_of s) (rest_of s)
-  unfolding field first
-  field-word e = rw e
-
-  pub end-other : (q : List ℕ) → ((s : List ℕ) → q ≡ 10 ∷ s → ⊥) → line_end k q ≡ refusal 3 0 k
-  unfolding line_end
-  end-other [] n = refl
-  end-other (b ∷ s) n = rw (ne_eqb b 10 (λ e. n s (ap (λ z. z ∷ s) e)), line_end)
-
-  pub end-here : {q r : List ℕ} → q ≡ 10 ∷ r → line_end k q ≡ got tt r
-  unfolding line_end
-  end-here e = rw e
-
-pub byte-ends : (k : ℕ) (q r : List ℕ) (x : Result (Unit {0}) Wrong) → ByteRead q 10 k r x → StepRead (line_end k q) r x
-byte-ends k q r (Ok _) e = end-here k e
-byte-ends k q r (Err x) h = rw (h.fault, h.field) (end-other k q h.other)
-
 module _ (k : ℕ) (q : List ℕ) where
-  pub figure-no-field : {e f : ℕ} → field k q ≡ refusal e 0 f → figure k q ≡ refusal e 0 f
-  unfolding figure
-  figure-no-field e = rw e
-
-  figure-is : {w r : List ℕ} {v : ℕ} → field k q ≡ got w r → number_of w ≡ some v → figure k q ≡ got v r
-  unfolding figure
-  figure-is {w} {r} {v} e n = rw e (formed-there k (number_of w) v r n)
-
-  figure-wrong : {w r : List ℕ} → field k q ≡ got w r → number_of w ≡ none → figure k q ≡ refusal 3 0 k
-  unfolding figure
-  figure-wrong {w} {r} e n = rw e (formed-not k (number_of w) r n)
-
-  pub figure-of : {w r : List ℕ} → field k q ≡ got w r → StepRead (figure k q) r (ok_or (num_of (number_of w)) (record { fault = Fault.WrongForm; field = k }))
-  figure-of {w} {r} e = elim (number_of w) as (λ o. number_of w ≡ o → StepRead (figure k q) r (ok_or (num_of o) (record { fault = Fault.WrongForm; field = k }))) [ none ↦ (λ n. figure-wrong e n) | some v ↦ (λ n. figure-is e n) ] refl
-
   module _ (lo hi : ℕ) where
-    pub number-wrong : {e f : ℕ} → figure k q ≡ refusal e 0 f → number k lo hi q ≡ refusal e 0 f
-    unfolding number
-    number-wrong e = rw e
-
     pub number-outside : {v : ℕ} {r : List ℕ} → figure k q ≡ got v r → (v < lo) ⊎ (hi < v) → number k lo hi q ≡ refusal 4 0 k
     unfolding number unless ◌&◌
     number-outside {v} e (inl h) = rw (e, lt-leb lo v h)
@@ -191,19 +146,6 @@ module _ (k : ℕ) (q : List ℕ) where
     pub number_is : {v : ℕ} {r : List ℕ} → figure k q ≡ got v r → lo ≤ v → v ≤ hi → number k lo hi q ≡ got v r
     unfolding number unless ◌&◌
     number_is {v} e l h = rw (e, le-leb lo v l, le-leb v hi h)
-
-  module _ (v : ℕ) where
-    pub running-wrong : {e f : ℕ} → figure k q ≡ refusal e 0 f → running k v q ≡ refusal e 0 f
-    unfolding running
-    running-wrong e = rw e
-
-    pub running-other : {u : ℕ} {r : List ℕ} → figure k q ≡ got u r → (u ≡ v → ⊥) → running k v q ≡ refusal 3 0 k
-    unfolding running
-    running-other {u} {r} e n = rw e (unless_not 3 k (eqb u v) r (ne_eqb u v n))
-
-    pub running-is : {u : ℕ} {r : List ℕ} → figure k q ≡ got u r → u ≡ v → running k v q ≡ got tt r
-    unfolding running
-    running-is {u} {r} e n = rw e (unless-there 3 k (eqb u v) r (eq-eqb u v n))
 
 -- ---- a word
 
@@ -225,12 +167,3 @@ module _ (q w : List ℕ) where
   pub keyword-not : not (same (word_of q) w) ≡ true → keyword w q ≡ refusal 3 0 1
   unfolding keyword first
   keyword-not n = unless_not 3 1 (same (word_of q) w) (rest_of q) (not-true (same (word_of q) w) n)
-
-module _ (w : List ℕ) (i : ℕ) (q : List ℕ) where
-  pub numbered-no-word : {e f : ℕ} → keyword w q ≡ refusal e 0 f → numbered w i q ≡ refusal e 0 f
-  unfolding numbered
-  numbered-no-word e = rw e
-
-  pub numbered-running : {r : List ℕ} → keyword w q ≡ got tt r → numbered w i q ≡ running 2 i r
-  unfolding numbered
-  numbered-running e = rw e

@@ -101,6 +101,7 @@ impl<'a> Cursor<'a> {
     }
 
     // The word of the field k, after its tab.
+    #[tactic(auto, unfolding(crate::specs::Reader::field, crate::specs::Reader::first))]
     pub fn field(&mut self, k: usize) -> Result<&'a [u8], Wrong>
         ensures { WordRead (field k self.old.rest.now) self.new.rest.now result }
     {
@@ -109,6 +110,7 @@ impl<'a> Cursor<'a> {
     }
 
     // The number in the field k.
+    #[tactic(auto, unfolding(crate::specs::Reader::figure, crate::specs::Reader::formed))]
     pub fn figure(&mut self, k: usize) -> Result<u32, Wrong>
         ensures { StepRead (figure k self.old.rest.now) self.new.rest.now result }
     {
@@ -120,6 +122,7 @@ impl<'a> Cursor<'a> {
     }
 
     // The number of lo to hi in the field k.
+    #[tactic(auto, unfolding(crate::specs::Reader::number))]
     pub fn number(&mut self, k: usize, lo: u16, hi: u16) -> Result<u16, Wrong>
         ensures { StepRead (number k lo hi self.old.rest.now) self.new.rest.now result }
     {
@@ -134,6 +137,7 @@ impl<'a> Cursor<'a> {
     }
 
     // The number v in the field k: an edition, a running number.
+    #[tactic(auto, unfolding(crate::specs::Reader::running, crate::specs::Reader::unless))]
     pub fn running(&mut self, k: usize, v: u16) -> Result<(), Wrong>
         ensures { StepRead (running k v self.old.rest.now) self.new.rest.now result }
     {
@@ -148,6 +152,7 @@ impl<'a> Cursor<'a> {
     }
 
     // The end of a line in the place of the field k.
+    #[tactic(auto, unfolding(crate::specs::Reader::line_end))]
     pub fn line_end(&mut self, k: usize) -> Result<(), Wrong>
         ensures { StepRead (line_end k self.old.rest.now) self.new.rest.now result }
     {
@@ -171,6 +176,7 @@ impl<'a> Cursor<'a> {
     }
 
     // The word w and the running number i at the beginning of a line.
+    #[tactic(auto, unfolding(crate::specs::Reader::numbered))]
     pub fn numbered(&mut self, w: &[u8], i: u16) -> Result<(), Wrong>
         ensures { StepRead (numbered w.now i self.old.rest.now) self.new.rest.now result }
     {

@@ -10,26 +10,25 @@ use native.Mathlib.Nat.{add-zero}
 use lib.ListN.{length, set, length-append}
 use lib.Seq.{sets, set_comm}
 use Rattle.std.specs.Prelude.{Option, Some, Result, Ok, Err, MatchResult, is_ok, OnErr}
-use Rattle.meaning.specs.Placement.{Kind, held, barred, Order}
+use Rattle.meaning.specs.Placement.{Kind, Order}
 use Rattle.fields.specs.Bytes.{word_of, rest_of, same, word_end}
 use Rattle.fields.specs.declared.Wrong.{Wrong}
 use Rattle.fields.specs.Leaves.{wrong_on, StepRead}
 use Rattle.fields.proofs.Steps.{refusal-not-got, unless-back, unless-there}
 use Rattle.meaning.proofs.Booleans.{true-or-false}
-use Rattle.fields.specs.Reader.{got, refusal, unless, first, keyword, line_end, number, running, at_end}
+use Rattle.fields.specs.Reader.{got, refusal, unless, first, keyword, line_end, at_end}
 use Rattle.fields.proofs.Puts.{sets-append}
 use Rattle.tables.proofs.Series.{series-cells}
 use Rattle.tables.proofs.One.{order-wide}
-use Rattle.placement_text.specs.Words.{word_placement, word_F, word_X}
+use Rattle.placement_text.specs.Words.{word_F, word_X}
 use Rattle.placement_text.specs.Reader as reader
 use Rattle.placement_text.specs.Reader.{opening_of, order_fields, end_fields, finish, orders, edition, sizes, head_fields}
 use Rattle.tables.specs.Cells.{kind_cell, one_order, weightless, series_cells, cells_of_orders}
-use Rattle.placement_text.specs.Code.{Opened, PairRead, OrderRead, kind_of, kind_number, pair_of, order_of, OneMore, AllPairs, head_of, SizesRead, HeadRead}
+use Rattle.placement_text.specs.Code.{Opened, PairRead, OrderRead, kind_of, kind_number, pair_of, order_of, OneMore, AllPairs}
 use Rattle.placement_text.specs.declared.Pair.{Pair}
 use Rattle.placement_text.specs.declared.Kind as declared
 use Rattle.placement_text.specs.declared.Kind.TheVariants.{Held, Barred}
 use Rattle.fields.specs.declared.Misread.{Misread}
-use Rattle.placement_text.specs.declared.room.Sizes.{Sizes}
 use Rattle.placement_text.proofs.Turns.{series-end, three-cells}
 
 -- ---- the word
@@ -63,21 +62,6 @@ pub other-word : (w q r : List ℕ) (x : Result (Unit {0}) Wrong) → is_ok x �
 other-word w q r (Ok _) t h g = absurd (true≢false t)
 other-word w q r (Err y) t h g = record { differs = keyword_gone w q h; kept = g }
 
-read-word : (w q r : List ℕ) (x : Result (Unit {0}) Wrong) → is_ok x ≡ true → StepRead (keyword w q) r x → keyword w q ≡ got tt r
-read-word w q r (Ok _) t h = h
-read-word w q r (Err y) t h = absurd (true≢false (sym t))
-
-module _ (q r : List ℕ) (x : Result (Unit {0}) Wrong) where
-  pub opens-held : is_ok x ≡ true → StepRead (keyword word_F q) r x → Opened q (reader.order held) r
-  unfolding opening_of
-  opens-held t h = let k = keyword-there word_F q r (read-word word_F q r x t h) in record { opens = rw (k.0, opening_of); rest = k.1 }
-
-  pub opens-barred : {p : List ℕ} → Other word_F q p → is_ok x ≡ true → StepRead (keyword word_X p) r x → Opened q (reader.order barred) r
-  unfolding opening_of
-  opens-barred F t h =
-      let k = keyword-there word_X q r (rw F.kept at (read-word word_X _ r x t h)) in
-      record { opens = rw (F.differs, k.0, opening_of); rest = k.1 }
-
 module _ {q p o : List ℕ} (F : Other word_F q p) (X : Other word_X p o) where
   same-place : o ≡ q
   same-place = X.kept ∙ F.kept
@@ -85,47 +69,13 @@ module _ {q p o : List ℕ} (F : Other word_F q p) (X : Other word_X p o) where
   not-barred : same (word_of q) word_X ≡ false
   not-barred = rw F.kept at X.differs
 
-  pub opens-end : {r : List ℕ} → keyword word_end o ≡ got tt r → Opened q reader.ending r
-  unfolding opening_of
-  opens-end {r} e =
-      let k = keyword-there word_end q r (rw same-place at e) in
-      record { opens = rw (F.differs, not-barred, k.0, opening_of); rest = k.1 }
-
 -- ---- the fields of a pair, and the end
 
-module _ (n m : ℕ) (b : Kind) (q : List ℕ) where
-  pub pair-no-trainee : {x f : ℕ} → number 2 1 n q ≡ refusal x 0 f → order_fields n m b q ≡ refusal x 0 f
-  unfolding order_fields
-  pair-no-trainee e = rw e
-
-  module _ {i : ℕ} {r : List ℕ} (e : number 2 1 n q ≡ got i r) where
-    pub pair-no-depot : {x f : ℕ} → number 3 1 m r ≡ refusal x 0 f → order_fields n m b q ≡ refusal x 0 f
-    unfolding order_fields
-    pair-no-depot g = rw e (rw g)
-
-    module _ {j : ℕ} {r' : List ℕ} (g : number 3 1 m r ≡ got j r') where
-      pub pair-no-end : {x f : ℕ} → line_end 4 r' ≡ refusal x 0 f → order_fields n m b q ≡ refusal x 0 f
-      unfolding order_fields
-      pair-no-end h = rw e (rw g (rw h))
-
-      pub pair-whole : {r'' : List ℕ} → line_end 4 r' ≡ got tt r'' → order_fields n m b q ≡ got (pair_of b i j) r''
-      unfolding order_fields
-      pair-whole h = rw e (rw g (rw h))
-
 module _ (l : ℕ) (os : List Order) (q : List ℕ) where
-  pub finish-no-end : {x f : ℕ} → line_end 2 q ≡ refusal x 0 f → finish l os q ≡ refusal x l f
-  unfolding finish end_fields
-  finish-no-end e = rw e
-
   pub finish-more : (r : List ℕ) → line_end 2 q ≡ got tt r → (length r ≡ 0 → ⊥) → finish l os q ≡ refusal 3 (l + 1) 1
   unfolding finish end_fields at_end
   finish-more [] e h = absurd (h refl)
   finish-more (b ∷ r) e h = rw e
-
-  pub finish-done : (r : List ℕ) → line_end 2 q ≡ got tt r → length r ≡ 0 → finish l os q ≡ got os []
-  unfolding finish end_fields at_end
-  finish-done [] e h = rw e
-  finish-done (b ∷ r) e h = absurd (omega arith)
 
 -- ---- one line
 
@@ -232,40 +182,3 @@ module _ {n m l : ℕ} {q o₀ o : List ℕ} {c : ℕ} {r : List ℕ} (T : Pairs
           ∙ ap (sets o₀ 1) (sym (series-end weightless one_order 0 T.them (order_of p)))
 
 -- ---- the first line
-
-module _ (e : ℕ) (q : List ℕ) where
-  pub sizes-no-trainees : {x k : ℕ} → number 3 0 256 q ≡ refusal x 0 k → sizes e q ≡ refusal x 0 k
-  unfolding sizes
-  sizes-no-trainees f = rw f
-
-  module _ {n : ℕ} {r : List ℕ} (f : number 3 0 256 q ≡ got n r) where
-    pub sizes-no-depots : {x k : ℕ} → number 4 0 64 r ≡ refusal x 0 k → sizes e q ≡ refusal x 0 k
-    unfolding sizes
-    sizes-no-depots g = rw f (rw g)
-
-    module _ {m : ℕ} {r' : List ℕ} (g : number 4 0 64 r ≡ got m r') where
-      pub sizes-no-end : {x k : ℕ} → line_end 5 r' ≡ refusal x 0 k → sizes e q ≡ refusal x 0 k
-      unfolding sizes
-      sizes-no-end h = rw f (rw g (rw h))
-
-      pub sizes-whole : {r'' : List ℕ} → line_end 5 r' ≡ got tt r'' → sizes e q ≡ got (head_of e n m) r''
-      unfolding sizes
-      sizes-whole h = rw f (rw g (rw h))
-
-module _ (q : List ℕ) where
-  pub head-no-word : {x f : ℕ} → keyword word_placement q ≡ refusal x 0 f → head_fields q ≡ refusal x 0 f
-  unfolding head_fields
-  head-no-word e = rw e
-
-  module _ {r : List ℕ} (e : keyword word_placement q ≡ got tt r) where
-    pub head-no-edition : {x f : ℕ} → running 2 1 r ≡ refusal x 0 f → head_fields q ≡ refusal x 0 f
-    unfolding head_fields edition
-    head-no-edition g = rw e (rw g)
-
-    head-sizes : {r' : List ℕ} → running 2 1 r ≡ got tt r' → head_fields q ≡ sizes 1 r'
-    unfolding head_fields edition
-    head-sizes g = rw e (rw g)
-
-    pub head-of-sizes : {r' : List ℕ} (r'' : List ℕ) (z : Result Sizes Wrong) → running 2 1 r ≡ got tt r' → SizesRead r' r'' z → HeadRead q r'' z
-    head-of-sizes r'' (Ok z) g S = head-sizes g ∙ S 1
-    head-of-sizes r'' (Err x) g S = head-sizes g ∙ S 1

@@ -8,57 +8,25 @@ use native.Mathlib.Omega.{arith}
 use native.Mathlib.Nat.{sub-zero}
 use lib.ListN.{length, set, length-append}
 use lib.Seq.{sets}
-use Rattle.std.specs.Prelude.{Option, Some, None, Result, Ok, Err, MatchResult}
+use Rattle.std.specs.Prelude.{Option, Some, None}
 use Rattle.meaning.specs.Lists.{weigh}
 use Rattle.meaning.specs.Placement.{depot, size, depot_size}
 use Rattle.fields.specs.Reader.{got, refusal, Reader, numbered, lines}
-use Rattle.fields.specs.Leaves.{wrong_on}
-use Rattle.fields.specs.declared.Wrong.{Wrong}
-use Rattle.fields.specs.declared.Misread.{Misread}
 use Rattle.fields.proofs.Puts.{sets-append}
 use Rattle.tables.proofs.Series.{series-cells, joined-weigh, series-more, joined-more, weigh-more}
 use Rattle.tables.proofs.One.{trainee-wide, entries-weigh, depot-wide, depot-weigh}
-use Rattle.placement_text.specs.Words.{word_T, word_D}
-use Rattle.placement_text.specs.Reader.{received, list, MOST, trainee_fields, trainee_line, depot_of, depot_fields, depot_line}
+use Rattle.placement_text.specs.Words.{word_D}
+use Rattle.placement_text.specs.Reader.{received, list, MOST, trainee_line, depot_of, depot_fields, depot_line}
 use Rattle.tables.specs.Cells.{posts_cell, length_cell, list_cells, depot_list_cells, trainee_cells, depot_cells, series_cells, joined}
 use Rattle.placement_text.specs.declared.DepotRow.{DepotRow}
-use Rattle.placement_text.specs.Code.{told, cell_of, count_of, Row, Rows, ListRow, ListedRead, TraineeRead, DepotRowRead, DepotRead, DepotLineRead}
+use Rattle.placement_text.specs.Code.{told, cell_of, count_of, Row, Rows, ListRow, DepotRowRead}
 use Rattle.placement_text.proofs.Sides.{trainee-back, depot-back}
 
 -- ---- one line
 
-module _ (m i total : ℕ) (q : List ℕ) where
-  pub trainee-refused : {x f : ℕ} → numbered word_T i q ≡ refusal x 0 f → trainee_fields m i total q ≡ refusal x 0 f
-  unfolding trainee_fields
-  trainee-refused e = rw e
-
-  pub trainee-listed : {r : List ℕ} → numbered word_T i q ≡ got tt r → trainee_fields m i total q ≡ list 3 m total r
-  unfolding trainee_fields
-  trainee-listed e = rw e
-
--- the trainee's line counts what its fields were refused for
-pub trainee-lined : (m i total start : ℕ) (q t t' r : List ℕ) (y : Result (Option ℕ) Misread) (x : Result (Option ℕ) Wrong)
-    → MatchResult x (λ v. y ≡ Ok v) (λ w. y ≡ Err (wrong_on w (i + 1))) → ListedRead (trainee_fields m i total q) start t t' r x
-    → TraineeRead (trainee_line m i total q) start t t' r y
-unfolding trainee_line
-trainee-lined m i total start q t t' r y (Ok l) e R = rw e (record { it = R.it; goes = rw R.goes; head = R.head; size = R.size; stored = R.stored })
-trainee-lined m i total start q t t' r y (Err w) e R = rw e (rw R)
-
 module _ (n j total : ℕ) (q : List ℕ) where
-  pub depot-refused : {x f : ℕ} → numbered word_D j q ≡ refusal x 0 f → depot_fields n j total q ≡ refusal x 0 f
-  unfolding depot_fields
-  depot-refused e = rw e
-
   module _ {r : List ℕ} (h : numbered word_D j q ≡ got tt r) where
-    pub posts-refused : {x f : ℕ} → received 3 256 r ≡ refusal x 0 f → depot_fields n j total q ≡ refusal x 0 f
-    unfolding depot_fields depot_of
-    posts-refused e = rw h (rw e)
-
     module _ {ps : maybe.Option ℕ} {r' : List ℕ} (e : received 3 256 r ≡ got ps r') where
-      pub depot-list-refused : {x f : ℕ} → list 4 n total r' ≡ refusal x 0 f → depot_fields n j total q ≡ refusal x 0 f
-      unfolding depot_fields depot_of
-      depot-list-refused f = rw h (rw e (rw f))
-
       depot-listed : {l : maybe.Option (List ℕ)} {r'' : List ℕ} → list 4 n total r' ≡ got l r'' → depot_fields n j total q ≡ got (depot ps l) r''
       unfolding depot_fields depot_of
       depot-listed f = rw h (rw e (rw f))
@@ -82,13 +50,6 @@ depot-row n j total start q posts l h e L =
       size = L.size;
       stored = L.stored;
     }
-
-pub depot-lined : (n j total start : ℕ) (q t t' r : List ℕ) (y : Result DepotRow Misread) (x : Result DepotRow Wrong)
-    → MatchResult x (λ v. y ≡ Ok v) (λ w. y ≡ Err (wrong_on w (n + j + 1))) → DepotRead (depot_fields n j total q) start t t' r x
-    → DepotLineRead (depot_line n j total q) start t t' r y
-unfolding depot_line
-depot-lined n j total start q t t' r y (Ok d) e R = rw e (record { it = R.it; goes = rw R.goes; head = R.head; size = R.size; stored = R.stored })
-depot-lined n j total start q t t' r y (Err w) e R = rw e (rw R)
 
 -- ---- one more at the end
 

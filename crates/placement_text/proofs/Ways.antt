@@ -47,10 +47,6 @@ on-line l step r (Err w) y e R = rw e (R, refl)
 -- ---- a number or `?`
 
 module _ (k hi : ℕ) (q : List ℕ) where
-  pub received-no-field : {x f : ℕ} → field k q ≡ refusal x 0 f → received k hi q ≡ refusal x 0 f
-  unfolding received
-  received-no-field e = rw e
-
   module _ {w r : List ℕ} (e : field k q ≡ got w r) where
     pub received-mark : same w word_? ≡ true → received k hi q ≡ got none r
     unfolding received or_missing
@@ -228,21 +224,9 @@ counted-read k hi total c start q t t' r r' (Ok _) h F e =
 counted-read k hi total c start q t t' r r' (Err x) h F e = listed-no-end k hi total c q h F.goes e
 
 module _ (k hi total : ℕ) (q : List ℕ) where
-  pub list-refused : {x f : ℕ} → received k hi q ≡ refusal x 0 f → list k hi total q ≡ refusal x 0 f
-  unfolding list
-  list-refused e = rw e
-
-  pub list-no-end : {r : List ℕ} {x f : ℕ} → received k hi q ≡ got none r → line_end (k + 1) r ≡ refusal x 0 f → list k hi total q ≡ refusal x 0 f
-  unfolding list listed
-  list-no-end e f = rw e (rw f)
-
   pub list-missing : {r r' : List ℕ} → received k hi q ≡ got none r → line_end (k + 1) r ≡ got tt r' → list k hi total q ≡ got none r'
   unfolding list listed
   list-missing e f = rw e (rw f)
-
-  pub list_counted : {r : List ℕ} {c : ℕ} → received k hi q ≡ got (some c) r → list k hi total q ≡ listed k hi total (some c) r
-  unfolding list
-  list_counted e = rw e
 
 pub missing-row : (step : Step (maybe.Option (List ℕ))) (start : ℕ) (t : List ℕ) {r : List ℕ} → step ≡ got none r → ListRow step start t t None r
 unfolding size trainee_cells length_cell list_cells

@@ -46,6 +46,7 @@ pub struct Pair {
 }
 
 // A number of 0 to hi in the field k, or `?`.
+#[tactic(auto, unfolding(crate::specs::Reader::received, crate::specs::Reader::or_missing, fields::specs::Reader::formed, fields::specs::Reader::unless))]
 fn received(text: &mut Cursor, k: usize, hi: u16) -> Result<Option<u16>, Wrong>
     ensures { ReceivedRead (received k hi text.old.rest.now) text.new.rest.now result }
 {
@@ -94,6 +95,7 @@ fn entries(
 }
 
 // After the length of a list, `count` in the field k: the entries and the end of the line.
+#[tactic(auto, unfolding(crate::specs::Reader::listed, fields::specs::Reader::unless))]
 fn counted(
     text: &mut Cursor,
     k: usize,
@@ -117,6 +119,7 @@ fn counted(
 }
 
 // A list: its length in the field k, where it was received, and its entries.
+#[tactic(auto, unfolding(crate::specs::Reader::list, crate::specs::Reader::listed))]
 fn list(
     text: &mut Cursor,
     k: usize,
@@ -136,6 +139,7 @@ fn list(
 }
 
 // The fields of trainee i.
+#[tactic(auto, unfolding(crate::specs::Reader::trainee_fields))]
 fn trainee(
     text: &mut Cursor,
     sizes: Sizes,
@@ -151,6 +155,7 @@ fn trainee(
 }
 
 // The line of trainee i.
+#[tactic(auto, unfolding(crate::specs::Reader::trainee_line))]
 fn trainee_line(
     text: &mut Cursor,
     sizes: Sizes,
@@ -165,6 +170,7 @@ fn trainee_line(
 }
 
 // The fields of depot j.
+#[tactic(auto, unfolding(crate::specs::Reader::depot_fields, crate::specs::Reader::depot_of))]
 fn depot(
     text: &mut Cursor,
     sizes: Sizes,
@@ -182,6 +188,7 @@ fn depot(
 }
 
 // The line of depot j, which stands below those of the trainees.
+#[tactic(auto, unfolding(crate::specs::Reader::depot_line))]
 fn depot_line(
     text: &mut Cursor,
     sizes: Sizes,
@@ -242,6 +249,7 @@ pub fn depot_lines(
 }
 
 // The word of the line l below the depots.
+#[tactic(auto, unfolding(crate::specs::Reader::orders, crate::specs::Reader::opening_of, fields::specs::Reader::keyword, fields::specs::Reader::first, fields::specs::Reader::unless))]
 fn opening_of(text: &mut Cursor, l: usize) -> Result<Opening, Misread>
     ensures { OpeningRead l text.old.rest.now text.new.rest.now result }
 {
@@ -256,6 +264,7 @@ fn opening_of(text: &mut Cursor, l: usize) -> Result<Opening, Misread>
 }
 
 // The fields of a held or barred pair, after its word.
+#[tactic(auto, unfolding(crate::specs::Reader::order_fields))]
 fn order_fields(text: &mut Cursor, sizes: Sizes, kind: Kind) -> Result<Pair, Wrong>
     ensures { PairRead sizes.trainees sizes.depots kind text.old.rest.now text.new.rest.now result }
 {
@@ -270,6 +279,7 @@ fn order_fields(text: &mut Cursor, sizes: Sizes, kind: Kind) -> Result<Pair, Wro
 }
 
 // The end line, l, after its word, and the end of the text.
+#[tactic(auto, unfolding(crate::specs::Reader::finish, crate::specs::Reader::end_fields, fields::specs::Reader::at_end))]
 fn finish(text: &mut Cursor, l: usize) -> Result<(), Misread>
     requires { l ≤ 65536 }
     ensures { FinishRead l text.old.rest.now result }
@@ -286,6 +296,7 @@ fn finish(text: &mut Cursor, l: usize) -> Result<(), Misread>
 }
 
 // The line l below the depots, after c pairs: one more pair, or none at the end of the text.
+#[tactic(auto, unfolding(crate::specs::Reader::orders))]
 fn order(text: &mut Cursor, sizes: Sizes, l: usize, c: usize) -> Result<Option<Pair>, Misread>
     requires { (l ≤ 65536) × (c ≤ 1024) }
     ensures { OrderRead sizes.trainees sizes.depots l c text.old.rest.now text.new.rest.now result }
@@ -330,6 +341,7 @@ pub fn order_lines(
 }
 
 // The numbers of trainees and depots, and the end of the line.
+#[tactic(auto, unfolding(crate::specs::Reader::sizes))]
 fn sizes(text: &mut Cursor) -> Result<Sizes, Wrong>
     ensures { SizesRead text.old.rest.now text.new.rest.now result }
 {
@@ -340,6 +352,7 @@ fn sizes(text: &mut Cursor) -> Result<Sizes, Wrong>
 }
 
 // The first line of the text.
+#[tactic(auto, unfolding(crate::specs::Reader::head_fields, crate::specs::Reader::edition))]
 pub fn head(text: &mut Cursor) -> Result<Sizes, Wrong>
     ensures { HeadRead text.old.rest.now text.new.rest.now result }
 {

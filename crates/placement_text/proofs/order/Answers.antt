@@ -7,14 +7,8 @@ use Rattle.std.proofs.lemmas.Result.{err_from_is_err_and}
 use Rattle.std.specs.Prelude.{Ok, Err, Some, MatchResult}
 use Rattle.fields.specs.Leaves.{wrong_on}
 use Rattle.placement_text.specs.Code.{Opened, opens}
-use Rattle.placement_text.proofs.Below.{orders-end, orders-limit, pair-line}
+use Rattle.placement_text.proofs.Below.{orders-end, pair-line}
 use Rattle.placement_text.proofs.order.Goals as goal
-
-pub returns-in_err-kind : goal.returns-in_err-kind
-returns-in_err-kind c =
-    let a = c.args in
-    let p = err_from_is_err_and c.from_residual.result c.from_residual.ensures.1 in
-    rw (p.1, p.2) (c.in_err-kind.ensures a.sizes.trainees a.sizes.depots (1024 - a.c))
 
 pub returns-in_err-finish : goal.returns-in_err-finish
 returns-in_err-finish c =
@@ -22,18 +16,6 @@ returns-in_err-finish c =
     let p = err_from_is_err_and c.from_residual-in_err-finish.result c.from_residual-in_err-finish.ensures.1 in
     let O = subst (λ v. Opened a.text.now.rest.now (opens v) c.opening_of.new.text.rest.now) c.in_default.is c.in_ok-kind.ensures in
     rw (p.1, p.2) (λ os. orders-end a.sizes.trainees a.sizes.depots a.l _ (1024 - a.c) os O ∙ c.in_err-finish.ensures os)
-
-pub returns-in_default : goal.returns-in_default
-returns-in_default c =
-    let a = c.args in
-    let O = subst (λ v. Opened a.text.now.rest.now (opens v) c.opening_of.new.text.rest.now) c.in_default.is c.in_ok-kind.ensures in
-    λ os. orders-end a.sizes.trainees a.sizes.depots a.l _ (1024 - a.c) os O ∙ c.in_ok-finish.ensures os
-
-pub returns-then-c-eq1024 : goal.returns-then-c-eq1024
-returns-then-c-eq1024 c =
-    let a = c.args in
-    let O = subst (λ v. Opened a.text.now.rest.now (opens v) c.opening_of.new.text.rest.now) c.in-Order.is c.in_ok-kind.ensures in
-    λ os. orders-limit a.sizes.trainees a.sizes.depots a.l _ a.c os O c.if-c-eq1024.true
 
 pub returns : goal.returns
 returns c =

@@ -7,13 +7,8 @@ use Rattle.std.proofs.lemmas.Result.{err_from_is_err_and}
 use Rattle.fields.specs.Bytes.{same}
 use Rattle.fields.proofs.Ways.{same_pointwise}
 use Rattle.placement_text.specs.Words.{word_?}
-use Rattle.placement_text.proofs.Ways.{no-number, a-number, received-no-field, received-mark, received-wrong, received-large, received_is}
+use Rattle.placement_text.proofs.Ways.{no-number, a-number, received-mark, received-wrong, received-large, received_is}
 use Rattle.placement_text.proofs.received.Goals as goal
-
-pub returns-in_err-w : goal.returns-in_err-w
-returns-in_err-w c =
-    let p = err_from_is_err_and c.from_residual.result c.from_residual.ensures.1 in
-    rw (p.1, p.2) (received-no-field c.args.k c.args.hi _ c.in_err-w.ensures)
 
 pub returns-then-eq : goal.returns-then-eq
 returns-then-eq c =

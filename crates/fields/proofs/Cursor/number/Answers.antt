@@ -1,15 +1,9 @@
--- A figure, and then the two ends of its range.
+-- The two ends of the range.
 use mathlib.Core.Logic.{inl, inr}
 use native.Mathlib.Omega.{arith}
-use Rattle.std.proofs.lemmas.Result.{err_from_is_err_and}
-use Rattle.fields.proofs.Ways.{number-wrong, number-outside, number_is}
+use Rattle.fields.proofs.Ways.{number-outside, number_is}
 use Rattle.fields.proofs.Cursor.number.Goals as goal
 use Rattle.fields.proofs.Cursor.number.Goals.{then-v-lo-via-then-v-lo, then-v-lo-via-else-v-lo+then-hi-v}
-
-pub returns-in_err-v : goal.returns-in_err-v
-returns-in_err-v c =
-    let p = err_from_is_err_and c.from_residual.result c.from_residual.ensures.1 in
-    rw (p.1, p.2) (number-wrong c.args.k _ c.args.lo c.args.hi c.in_err-v.ensures)
 
 pub returns-then-v-lo : goal.returns-then-v-lo
 returns-then-v-lo c = number-outside c.args.k _ c.args.lo c.args.hi c.in_ok-v.ensures (elim c.then-v-lo.branch [ then-v-lo-via-then-v-lo w ↦ inl w.if-v-lo.true | then-v-lo-via-else-v-lo+then-hi-v w ↦ inr w.if-hi-v.true ])
