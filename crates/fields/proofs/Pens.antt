@@ -111,6 +111,6 @@ by-lines f g d (x ∷ xs) k i h =
     let b : k + 0 ≡ k = omega arith in
     let first : g i ≡ f k x = rw (a, b) at z in
     ap₂ (λ p q. p ++ q) first (by-lines f g d xs (k + 1) (i + 1) (λ j l.
-      let m : i + 1 + j ≡ i + suc j = omega arith in
-      let n : k + 1 + j ≡ k + suc j = omega arith in
-      rw (m, n) (h (suc j) (omega arith))))
+    let m : i + 1 + j ≡ i + suc j = omega arith in
+    let n : k + 1 + j ≡ k + suc j = omega arith in
+    rw (m, n) (h (suc j) (omega arith))))

@@ -1,4 +1,4 @@
-// The leaves of both texts: what stands at the front of a text, and bytes put at a position of an output.
+// The leaves of both texts: what stands at the front of a text; `pen` puts bytes into an output.
 // A field is read from its tab on.
 #![tactic(auto)]
 

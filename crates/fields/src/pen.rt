@@ -1,4 +1,4 @@
-// Bytes put one after the other into an output.
+// Bytes put one after the other into an output, in words, numbers and lines.
 
 ghost use Rattle.std.specs.Prelude.{ℕ, List, ◌∷◌, [], ◌+◌, ◌≤◌, ◌<◌};
 ghost use Rattle.fields.specs.Number.{digits_of};
@@ -15,6 +15,7 @@ pub struct Pen<'a> {
 // Lines of one kind, each by its number.
 pub trait Lines {
     ghost line: { Self → ℕ → List ℕ };
+
     ghost there: { Self → ℕ → Type 0 };
 
     // Puts the line i.
@@ -24,7 +25,6 @@ pub trait Lines {
 }
 
 impl<'a> Pen<'a> {
-
     // Puts one byte.
     pub fn byte(&mut self, b: u8)
         requires { Room self.old (b ∷ []) }

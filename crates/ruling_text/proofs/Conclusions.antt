@@ -1,6 +1,6 @@
 -- The end of the text, from the first line after the strikes: one law for each way that reading it can go.
 -- Assumes nothing.
-use Prim.Native.Nat.{ℕ, ◌+◌, ◌≤◌, ◌<◌}
+use Prim.Native.Nat.{ℕ, ◌+◌, ◌<◌}
 use mathlib.Core.Path.{◌≡◌, refl, sym, ap, ◌∙◌}
 use mathlib.Core.Logic.{◌⊎◌, inl, inr, ⊎_elim}
 use mathlib.Core.Bool.{true, false}
@@ -12,7 +12,7 @@ use lib.Dec.{eqb}
 use Rattle.meaning.specs.Endings.{Outcome, placed_by}
 use Rattle.meaning.specs.Solver.{ending_of}
 use Rattle.meaning.specs.declared.Ending.{Ending}
-use Rattle.meaning.specs.declared.Ending.TheVariants.{Placed, NoneHeld, NoneRoom}
+use Rattle.meaning.specs.declared.Ending.TheVariants.{Placed}
 use Rattle.meaning.proofs.Booleans.{true-or-false}
 use Rattle.fields.specs.Bytes.{word_of, rest_of, same}
 use Rattle.fields.specs.Reader.{got, refusal, line, first, line_end, keyword, at_end, number, lines}
@@ -127,11 +127,6 @@ module _ (l : ℕ) (q : List ℕ) where
     finish-here b = rw h (nothing-left (l + 1) r b)
 
 -- ---- all that follows the strikes
-
-pub few-lines : (n : ℕ) (e : Ending) → n ≤ 256 → ending_lines n e ≤ 256
-few-lines n Placed h = h
-few-lines n (NoneHeld i j) h = omega arith
-few-lines n (NoneRoom i j) h = omega arith
 
 lines-ending : {n : ℕ} {o : Outcome} → LegalOutcome n o → lines_of o ≡ ending_lines n (ending_of o)
 unfolding lines_of ending_of

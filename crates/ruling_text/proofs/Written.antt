@@ -1,10 +1,10 @@
--- Lines put one after the other: what a loop that writes them has left to put after i of them.
+-- The lines of a table, by its cells.
 -- Assumes nothing.
-use Prim.Native.Nat.{ℕ, ◌+◌, ◌≤◌}
+use Prim.Native.Nat.{ℕ, ◌+◌}
 use mathlib.Core.Path.{◌≡◌, sym, ap, ◌∙◌}
 use mathlib.Core.List.{List}
 use native.Mathlib.Omega.{arith}
-use lib.ListN.{length, get_or, take, length-take}
+use lib.ListN.{length, get_or, take}
 use lib.Seq.{get_or-take}
 use Rattle.meaning.specs.Endings.{placed_by}
 use Rattle.fields.specs.Writer.{write_lines, lines_by}
@@ -26,6 +26,3 @@ cell-lines table n fit =
 -- a legal table has a cell for each trainee
 pub table_cells_fit : {n : ℕ} {l : List ℕ} → LegalOutcome n (placed_by l) → length l ≡ n
 table_cells_fit (legal_table e h) = e
-
-pub table-long : (n : ℕ) (table : List ℕ) → length (take n table) ≡ n → n ≤ length table
-table-long n table e = omega (arith, e, length-take n table)

@@ -35,7 +35,7 @@ fn pair_at(text: &mut Cursor, k: usize, n: u16) -> Result<[u16; 2], Wrong>
     Ok([trainee, depot])
 }
 
-// The lowest witness that a reason can have, by its number.
+// The lowest witness that a reason can have, by its number: text and cells both have the number (`strike_numbers`), so that an enum between would be no plainer.
 #[tactic(auto, unfolding(crate::specs::Reader::low_witness))]
 fn low_witness(k: u16) -> u16
     ensures { result ≡ low_witness k }
@@ -104,7 +104,8 @@ fn strikes_at(text: &mut Cursor, sizes: Sizes, cells: &mut [u16]) -> Result<(), 
     Ok(())
 }
 
-// The lines of the trainees after the strikes, into the front of `table`.
+// The lines of the trainees after the strikes, into the front of `table`. The two loops share no step but the `?`, so that one function over both,
+// with a closure to read a line and another to store it, would be no plainer.
 fn table_at(text: &mut Cursor, sizes: Sizes, table: &mut [u16]) -> Result<(), Misread>
     requires { sizes.trainees ≤ length table.old }
     ensures { RowsRead cell_numbers (lines (cell_line sizes.strikes) weightless sizes.trainees 1 0 [] text.old.rest.now) table.old table.new text.new.rest.now result }
@@ -117,7 +118,7 @@ fn table_at(text: &mut Cursor, sizes: Sizes, table: &mut [u16]) -> Result<(), Mi
     Ok(())
 }
 
-// The ending whose number in the text is k, 1 or 2.
+// The ending whose number in the text is k, 1 or 2: the enum for these numbers is `Ending` itself.
 #[tactic(auto, unfolding(crate::specs::Reader::none_of, meaning::specs::Solver::ending_of))]
 fn none_of(k: u16, i: u16, j: u16) -> Ending
     ensures { ending_of (none_of k (record { trainee = i; depot = j })) ≡ result }
