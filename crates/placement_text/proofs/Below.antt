@@ -24,10 +24,11 @@ use Rattle.placement_text.specs.Words.{word_F, word_X}
 use Rattle.placement_text.specs.Reader as reader
 use Rattle.placement_text.specs.Reader.{opening_of, order_fields, end_fields, finish, orders, edition, sizes, head_fields}
 use Rattle.tables.specs.Cells.{kind_cell, one_order, weightless, series_cells, cells_of_orders}
-use Rattle.placement_text.specs.Code.{Opened, PairRead, OrderRead, kind_of, kind_number, pair_of, order_of, OneMore, AllPairs}
+use Rattle.placement_text.specs.Code.{Opened, PairRead, OrderRead, kind_of, pair_of, order_of, OneMore, AllPairs}
 use Rattle.placement_text.specs.declared.Pair.{Pair}
-use Rattle.placement_text.specs.declared.Kind as declared
-use Rattle.placement_text.specs.declared.Kind.TheVariants.{Held, Barred}
+use Rattle.tables.specs.Kinds.{cell_of}
+use Rattle.tables.specs.declared.Kind as declared
+use Rattle.tables.specs.declared.Kind.TheVariants.{Held, Barred}
 use Rattle.fields.specs.declared.Misread.{Misread}
 use Rattle.placement_text.proofs.Turns.{series-end, three-cells}
 
@@ -139,9 +140,9 @@ pub pairs_start : (n m l : ℕ) (q o : List ℕ) → PairsTurn n m l q o o 0 q
 unfolding series_cells
 pairs_start n m l q o = record { them = []; many = refl; few = omega arith; stored = refl; goes = rw add-zero }
 
-pair-cells : (p : Pair) → kind_number p.kind ∷ p.trainee ∷ p.depot ∷ [] ≡ one_order 0 (order_of p)
+pair-cells : (p : Pair) → cell_of p.kind ∷ p.trainee ∷ p.depot ∷ [] ≡ one_order 0 (order_of p)
 unfolding one_order kind_cell
-pair-cells p = elim p.kind as (λ k. kind_number k ∷ p.trainee ∷ p.depot ∷ [] ≡ one_order 0 (pair_of (kind_of k) p.trainee p.depot)) [ Held ↦ refl | Barred ↦ refl ]
+pair-cells p = elim p.kind as (λ k. cell_of k ∷ p.trainee ∷ p.depot ∷ [] ≡ one_order 0 (pair_of (kind_of k) p.trainee p.depot)) [ Held ↦ refl | Barred ↦ refl ]
 
 module _ {n m l : ℕ} {q o₀ o : List ℕ} {c : ℕ} {r : List ℕ} (T : PairsTurn n m l q o₀ o c r) where
   pub pairs-done : ((os : List Order) → orders (1024 - c) n m (l + c) os r ≡ got os []) → AllPairs (orders 1024 n m l [] q) o₀ (set o 0 c) c
@@ -158,7 +159,7 @@ module _ {n m l : ℕ} {q o₀ o : List ℕ} {c : ℕ} {r : List ℕ} (T : Pairs
       }
 
   pub pairs-on : {p : Pair} {r' : List ℕ} → OneMore n m (l + c) c r p r'
-      → PairsTurn n m l q o₀ (set (set (set o (1 + 3 * c) (kind_number p.kind)) (1 + 3 * c + 1) p.trainee) (1 + 3 * c + 2) p.depot) (c + 1) r'
+      → PairsTurn n m l q o₀ (set (set (set o (1 + 3 * c) (cell_of p.kind)) (1 + 3 * c + 1) p.trainee) (1 + 3 * c + 2) p.depot) (c + 1) r'
   unfolding one_order
   pairs-on {p} {r'} M =
       record {
@@ -172,10 +173,10 @@ module _ {n m l : ℕ} {q o₀ o : List ℕ} {c : ℕ} {r : List ℕ} (T : Pairs
       start : 1 + length (series_cells weightless one_order 0 T.them) ≡ 1 + 3 * c
       start = ap (λ z. 1 + z) (series-cells weightless 3 one_order order-wide 0 T.them ∙ ap (λ z. 3 * z) T.many)
 
-      cs : set (set (set o (1 + 3 * c) (kind_number p.kind)) (1 + 3 * c + 1) p.trainee) (1 + 3 * c + 2) p.depot
+      cs : set (set (set o (1 + 3 * c) (cell_of p.kind)) (1 + 3 * c + 1) p.trainee) (1 + 3 * c + 2) p.depot
           ≡ sets o₀ 1 (series_cells weightless one_order 0 (T.them ++ order_of p ∷ []))
       cs =
-          three-cells o (1 + 3 * c) (kind_number p.kind) p.trainee p.depot
+          three-cells o (1 + 3 * c) (cell_of p.kind) p.trainee p.depot
           ∙ ap (sets o (1 + 3 * c)) (pair-cells p)
           ∙ ap₂ (λ z k. sets z k (one_order 0 (order_of p))) T.stored (sym start)
           ∙ sym (sets-append o₀ 1 (series_cells weightless one_order 0 T.them) (one_order 0 (order_of p)))

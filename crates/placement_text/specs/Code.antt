@@ -16,7 +16,7 @@ use Rattle.placement_text.specs.Reader as reader
 use Rattle.placement_text.specs.Reader.{opening_of, order_fields, finish, orders, Head, sizes, head_fields}
 use Rattle.tables.specs.Cells.{trainee_cells, depot_cells, list_cells, depot_list_cells, series_cells, joined, cells_of_orders}
 use Rattle.placement_text.specs.declared.DepotRow.{DepotRow}
-use Rattle.placement_text.specs.declared.Kind.{Kind}
+use Rattle.tables.specs.declared.Kind.{Kind}
 use Rattle.placement_text.specs.declared.Opening.{Opening}
 use Rattle.placement_text.specs.declared.Pair.{Pair}
 use Rattle.placement_text.specs.declared.room.Sizes.{Sizes}
@@ -111,10 +111,6 @@ DepotsRead step n base h h' t t' r (Err x) = MisreadAs step x
 abbrev pub kind_of : Kind → placement.Kind
 kind_of Kind.Held = placement.held
 kind_of Kind.Barred = placement.barred
-
-abbrev pub kind_number : Kind → ℕ
-kind_number Kind.Held = 0
-kind_number Kind.Barred = 1
 
 abbrev pub opens : Opening → reader.Opening
 opens (Opening.Order b) = reader.order (kind_of b)

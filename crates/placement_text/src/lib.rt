@@ -11,6 +11,7 @@ ghost use Rattle.placement_text.specs.Code.{ReceivedRead, EntriesRead, CountedRe
 
 use fields::{Cursor, Misread, Wrong};
 use meaning::Fault;
+use tables::Kind;
 
 pub mod room;
 
@@ -21,13 +22,6 @@ pub use room::{Room, Sizes};
 pub struct DepotRow {
     pub posts: Option<u16>,
     pub list: Option<u16>,
-}
-
-// Whether a pair is held or barred, by the number of its cell.
-#[derive(Clone, Copy)]
-pub enum Kind {
-    Held = 0,
-    Barred = 1,
 }
 
 // What a line below the depots is, by its word.

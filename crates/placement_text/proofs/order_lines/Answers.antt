@@ -3,14 +3,15 @@ use Prim.Native.Nat.{◌+◌}
 use mathlib.Core.Path.{◌≡◌, refl, subst}
 use denote.Enum.Declared.{tag_of}
 use Rattle.std.specs.Prelude.{Ok}
-use Rattle.placement_text.specs.contracts.Kind.{the_type}
-use Rattle.placement_text.specs.declared.Kind.{Kind}
-use Rattle.placement_text.specs.declared.Kind.TheVariants.{Held, Barred}
-use Rattle.placement_text.specs.Code.{kind_number, OrderRead}
+use Rattle.tables.specs.contracts.Kind.{the_type}
+use Rattle.tables.specs.Kinds.{cell_of}
+use Rattle.tables.specs.declared.Kind.{Kind}
+use Rattle.tables.specs.declared.Kind.TheVariants.{Held, Barred}
+use Rattle.placement_text.specs.Code.{OrderRead}
 use Rattle.placement_text.proofs.Below.{pairs_start, pairs-done, pairs-on}
 use Rattle.placement_text.proofs.order_lines.Goals as goal
 
-kind-cell : (k : Kind) → tag_of the_type k ≡ kind_number k
+kind-cell : (k : Kind) → tag_of the_type k ≡ cell_of k
 kind-cell Held = refl
 kind-cell Barred = refl
 
