@@ -65,7 +65,7 @@ fn passed_by(rows: &Rows, i: usize, j: usize, k: usize) -> bool
     ranks::place_on(above, k).is_some() && rows.settled_with(j, k) == Far::Down
 }
 
-// Whether the reason, with its own witness, fits the pair now; no other witness is looked for.
+// Whether the reason, with its own witness, fits the pair now; no other witness is looked for. The rows come without their market, which is the standing's.
 fn reason_fits(standing: &Standing, marks: &[u64], i: usize, j: usize, why: Reason) -> bool
     requires { In (n_of standing.now.market.heads.now) i × In (m_of standing.now.market.heads.now) j × (n_of standing.now.market.heads.now < length marks.now) }
     ensures { result ≡ fits_in standing.now.market.heads.now standing.now.market.entries.now standing.now.holds.now standing.now.bars.now marks.now i j why }
@@ -102,6 +102,7 @@ pub fn may_strike(standing: &Standing, marks: &[u64], s: Strike) -> bool
 }
 
 // One step on the rows: an allowed strike is marked, any other changes nothing.
+// Standing and rows are no one struct: only the rows change, and each step would have to say that the struct keeps the rest; two parameters are plainer.
 fn strike_one(standing: &Standing, marks: &mut [u64], s: Strike) -> bool
     requires { In (n_of standing.now.market.heads.now) s.trainee × (n_of standing.now.market.heads.now < length marks.old) }
     ensures { (result ≡ may_strike standing.now.market.heads.now standing.now.market.entries.now standing.now.holds.now standing.now.bars.now marks.old s)

@@ -122,7 +122,7 @@ impl<'a> Search<'a> {
         }
     }
 
-    // The highest on trainee i's list who blocks with them, where x is their own depot.
+    // The highest on trainee i's list that blocks with them, where x is their own depot.
     fn first_on(&self, i: usize, x: usize) -> Option<u16>
         requires { In (n_of self.now.market.heads.now) i × (x ≡ table_of self.now.table.now i) }
         ensures { found_of result ≡ first_on (market_of self.now.market.heads.now self.now.market.entries.now) (table_of self.now.table.now) i (wishes_of self.now.market.heads.now self.now.market.entries.now i) }
