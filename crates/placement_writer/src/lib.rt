@@ -16,6 +16,7 @@ ghost use Rattle.placement_writer.specs.Held.{number_in, list_in, depot_in, kind
 ghost use Rattle.placement_writer.specs.Writing.{writes, writing_of};
 
 use meaning::{Refusal, Writing};
+use tables::Kind;
 
 // The entries of a list.
 fn put_entries(list: &[u16], out: &mut [u8], at: usize) -> usize
@@ -36,24 +37,23 @@ fn put_list(heads: &[u16], entries: &[u16], cells: usize, out: &mut [u8], at: us
     requires { ListRoom heads.now entries.now cells × (at + length (write_list (list_in heads.now entries.now cells)) ≤ length out.old) }
     ensures { Put out.old out.new at (write_list (list_in heads.now entries.now cells)) result }
 {
-    let v = tables::length_of(heads, cells);
-    if v == tables::NOT_RECEIVED {
+    let Some(v) = tables::length_of(heads, cells) else {
         return fields::put_word(out, at, b"\t?");
-    }
+    };
     let p = fields::put_number(out, at, v as u16);
     let list = tables::list_at(heads, entries, cells);
     put_entries(list, out, p)
 }
 
-// Posts, or `?`.
-fn put_posts(posts: usize, out: &mut [u8], at: usize) -> usize
-    requires { (posts < 65536) × (at + length (write_received (number_in posts)) ≤ length out.old) }
-    ensures { Put out.old out.new at (write_received (number_in posts)) result }
+// The posts of the depot whose cells stand at `cells`, or `?`.
+fn put_posts(heads: &[u16], cells: usize, out: &mut [u8], at: usize) -> usize
+    requires { (cells + 2 < length heads.now) × (at + length (write_received (number_in (get_or heads.now (cells + 2) 0))) ≤ length out.old) }
+    ensures { Put out.old out.new at (write_received (number_in (get_or heads.now (cells + 2) 0))) result }
 {
-    if posts == tables::NOT_RECEIVED {
-        return fields::put_word(out, at, b"\t?");
+    match tables::posts_of(heads, cells) {
+        None => fields::put_word(out, at, b"\t?"),
+        Some(posts) => fields::put_number(out, at, posts as u16),
     }
-    fields::put_number(out, at, posts as u16)
 }
 
 // The line of trainee i.
@@ -81,20 +81,21 @@ fn put_depot(
 {
     let a = fields::put_word(out, at, b"D");
     let b = fields::put_number(out, a, j as u16);
-    let c = put_posts(tables::posts_of(heads, cells), out, b);
+    let c = put_posts(heads, cells, out, b);
     let d = put_list(heads, entries, cells, out, c);
     fields::put_byte(out, d, 10)
 }
 
-// The word of a pair: 0 is held, and 1 barred.
-fn put_kind(kind: usize, out: &mut [u8], at: usize) -> usize
-    requires { at + length (letter (kind_in kind)) ≤ length out.old }
-    ensures { Put out.old out.new at (letter (kind_in kind)) result }
+// The word of the pair whose cells stand at `cells`.
+fn put_kind(orders: &[u16], cells: usize, out: &mut [u8], at: usize) -> usize
+    requires { (cells < length orders.now) × (at + length (letter (kind_in (get_or orders.now cells 0))) ≤ length out.old) }
+    ensures { Put out.old out.new at (letter (kind_in (get_or orders.now cells 0))) result }
 {
-    if kind == 0 {
-        return fields::put_word(out, at, b"F");
+    if tables::order_kind(orders, cells) == Some(Kind::Held) {
+        fields::put_word(out, at, b"F")
+    } else {
+        fields::put_word(out, at, b"X")
     }
-    fields::put_word(out, at, b"X")
 }
 
 // The line of the pair whose cells stand at `cells`.
@@ -102,7 +103,7 @@ fn put_order(orders: &[u16], cells: usize, out: &mut [u8], at: usize) -> usize
     requires { (cells + 2 < length orders.now) × (at + length (write_order (order_in orders.now cells)) ≤ length out.old) }
     ensures { Put out.old out.new at (write_order (order_in orders.now cells)) result }
 {
-    let a = put_kind(tables::order_kind(orders, cells), out, at);
+    let a = put_kind(orders, cells, out, at);
     let b = fields::put_number(out, a, tables::order_trainee(orders, cells) as u16);
     let c = fields::put_number(out, b, tables::order_depot(orders, cells) as u16);
     fields::put_byte(out, c, 10)

@@ -17,7 +17,7 @@ use Rattle.meaning.specs.Lists.{place}
 use Rattle.meaning.specs.Market.{Ranged, Strict, mutual?}
 use Rattle.meaning.proofs.Booleans.{true-or-false}
 use Rattle.meaning.proofs.Lists.{place-inj}
-use Rattle.tables.specs.Cells.{trainee_start, depot_start, part}
+use Rattle.tables.specs.Cells.{missing_cell, trainee_start, depot_start, part}
 use Rattle.tables.specs.Decode.{within}
 use Rattle.tables.proofs.Tests.{in_within, within_in}
 
@@ -32,6 +32,9 @@ ranking-is h e j r = rw (in_within _ _ r)
 pub posts-are : (h : List ℕ) (j : ℕ) → In (m_of h) j → posts_of h j ≡ get_or h (depot_start (n_of h) j + 2) 0
 unfolding posts_of
 posts-are h j r = rw (in_within _ _ r)
+
+pub posts-given : (h e : List ℕ) → FullTables h e → (j : ℕ) → In (m_of h) j → get_or h (depot_start (n_of h) j + 2) 0 ≡ missing_cell → ⊥
+posts-given h e f j r q = omega (arith, f.few_posts j, posts-are h j r)
 
 trainee-of : (h e : List ℕ) (i j : ℕ) → 0 < place (wishes_of h e i) j → In (n_of h) i
 unfolding wishes_of place

@@ -55,7 +55,7 @@ impl<'a> Market<'a> {
         requires { In (m_of self.now.heads.now) j }
         ensures { result ≡ posts_of self.now.heads.now j }
     {
-        tables::posts_of(self.heads, tables::depot_at(self.trainees(), j))
+        tables::posts_of(self.heads, tables::depot_at(self.trainees(), j)).unwrap()
     }
 
     // Whether trainee i and j rank each other: the trainee's list is the short one, and most questions end there with no.

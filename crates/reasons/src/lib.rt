@@ -1,7 +1,7 @@
 // Which reason fits a pair now, read off the tables and the rows of struck places.
 #![tactic(auto)]
 
-ghost use Rattle.std.specs.Prelude.{◌≡◌, true, false, not, ℕ, ◌+◌, ◌-◌, ◌*◌, ◌≤◌, ◌<◌, length, get_or, leb, ltb, eqb};
+ghost use Rattle.std.specs.Prelude.{◌≡◌, true, false, not, ℕ, ◌+◌, ◌-◌, ◌≤◌, ◌<◌, length, get_or, leb, ltb, eqb};
 ghost use Rattle.std.proofs.Math.Option.{none};
 ghost use Rattle.meaning.specs.Numbers.{In};
 ghost use Rattle.meaning.specs.Lists.{place};
@@ -17,6 +17,7 @@ ghost use Rattle.reasons.specs.Left.{open_at, left_cell, LaidTo};
 
 use meaning::Reason;
 use ranks::Market;
+use tables::Kind;
 
 // How far everything on a trainee's list is struck, seen from a depot: not up to it, above it, or down to it.
 #[derive(Clone, Copy, PartialEq, Eq, PartialOrd, Ord)]
@@ -234,7 +235,7 @@ impl<'a> Orders<'a> {
         requires { k < get_or self.now.cells.now 0 0 }
         ensures { result ≡ eqb (get_or self.now.cells.now (order_start k) 0) 0 }
     {
-        tables::order_kind(self.cells, tables::order_at(k)) == 0
+        tables::order_kind(self.cells, tables::order_at(k)) == Some(Kind::Held)
     }
 
     // The trainee of the order at k.

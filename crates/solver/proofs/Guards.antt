@@ -1,7 +1,7 @@
 -- The guards of the solver, in the order in which they are tried: each way through the code against the definition.
 -- Assumes nothing.
 use Prim.Native.Nat.{ℕ}
-use mathlib.Core.Path.{◌≡◌, refl, sym, ap, ◌∙◌}
+use mathlib.Core.Path.{◌≡◌, refl, ◌∙◌}
 use mathlib.Core.Bool.{true, false, true≢false, false≢true}
 use mathlib.Core.Option.{Option, none, some}
 use mathlib.Core.List.{List}
@@ -11,17 +11,17 @@ use Rattle.solver.specs.Answer.{solve_if_full, solve_if_read, solve_of, given_by
 use Rattle.rulings.specs.Held.{roomy}
 use Rattle.solver.proofs.Whole.{full-orders, orders-fine}
 use Rattle.meaning.specs.Placement.{Placement}
-use Rattle.meaning.specs.Full.{Full, Received, whole, lacking, and_then, full}
+use Rattle.meaning.specs.Full.{Full, whole, and_then, full}
 use Rattle.meaning.specs.Solver.{WholeRuling, head_of, solve, ruled}
 use Rattle.meaning.specs.Answers.{SHORT_PART, NOT_RECEIVED, NOT_READ, refusal}
 use Rattle.meaning.specs.declared.Ruled.{Ruled}
 use Rattle.meaning.specs.declared.Ruling.{Ruling}
 use Rattle.meaning.proofs.Solver.{always-ruled}
 use Rattle.tables.specs.Decode.{Sides, sides_of, placement_of}
-use Rattle.tables.specs.Answers.{full_sides, lacking_line}
+use Rattle.tables.specs.Answers.{full_sides, LineOf}
 use Rattle.tables.specs.Walk.{is_some}
-use Rattle.tables.proofs.Round.{parts}
-use Rattle.tables.proofs.Lines.{full-sides, IsWhole, whole-at-zero}
+use Rattle.std.specs.Prelude.{Some, None}
+use Rattle.tables.proofs.Lines.{IsWhole, of-placement, lacking-at, whole-at-zero}
 use Rattle.tables.proofs.Views.{TablesSeen, tables-seen}
 use Rattle.ranks.specs.View.{FullTables}
 use Rattle.ranks.proofs.Held.{full-tables}
@@ -60,26 +60,17 @@ module _ (h e o t : List ℕ) (room : ℕ) where
 
 -- ---- number 7
 
-module _ (h e o t : List ℕ) (room : ℕ) (g : ReadTables h e o t room)
-    (line : ℕ) (gives : (e' : List ℕ) (b : Sides) → sides_of h e' ≡ some b → line ≡ lacking_line (full_sides b)) where
-  line-is : line ≡ lacking_line (full g.placement)
-  line-is =
-      let q = parts h e o g.placement g.held in
-      gives e q.sides q.sides-of ∙ ap lacking_line (sym (full-sides h e o g.placement g.held))
-
-  pub solve-lacking : (cells : List ℕ) → (line ≡ 0 → ⊥) → solve_of h e o t room ≡ some (given_by (Ruled.Refused (refusal NOT_RECEIVED line)) t cells)
-  unfolding solve_if_full lacking_line ruled and_then recorded strikes_in
-  solve-lacking cells ne = g.by ∙ go (full g.placement) refl line-is
-    where
-      go : (r : Received Full) → full g.placement ≡ r → line ≡ lacking_line r → solve_if_full (ruled g.placement) t ≡ some (given_by (Ruled.Refused (refusal NOT_RECEIVED line)) t cells)
-      go (whole F) x e = absurd (ne e)
-      go (lacking l) x e = rw x (ap (λ (k : ℕ). some (given_by (Ruled.Refused (refusal NOT_RECEIVED k)) t cells)) (sym e))
+module _ (h e o t : List ℕ) (room : ℕ) (g : ReadTables h e o t room) where
+  pub solve-lacking : (line : ℕ) → ((e' : List ℕ) (b : Sides) → sides_of h e' ≡ some b → LineOf (full_sides b) (Some line))
+      → (cells : List ℕ) → solve_of h e o t room ≡ some (given_by (Ruled.Refused (refusal NOT_RECEIVED line)) t cells)
+  unfolding solve_if_full ruled and_then recorded strikes_in
+  solve-lacking line gives cells = g.by ∙ rw (lacking-at (full g.placement) line (of-placement h e o g.placement g.held (Some line) gives))
 
   -- ---- the ruling
 
-  module _ (z : line ≡ 0) where
+  module _ (gives : (e' : List ℕ) (b : Sides) → sides_of h e' ≡ some b → LineOf (full_sides b) None) where
     its_full : IsWhole (full g.placement)
-    its_full = whole-at-zero g.placement (sym line-is ∙ z)
+    its_full = whole-at-zero g.placement (of-placement h e o g.placement g.held None gives)
 
     seen : TablesSeen h e o its_full.value g.placement.orders
     seen = tables-seen h e o g.placement its_full.value g.held its_full.here

@@ -1,7 +1,7 @@
 // The solver: sweeps over rows and cells, until one strikes nothing.
 #![tactic(auto)]
 
-ghost use Rattle.std.specs.Prelude.{◌≡◌, [], ℕ, suc, ◌+◌, ◌*◌, ◌≤◌, ◌<◌, length, get_or};
+ghost use Rattle.std.specs.Prelude.{◌≡◌, [], suc, ◌+◌, ◌≤◌, ◌<◌, length, get_or};
 ghost use Rattle.meaning.specs.Numbers.{In};
 ghost use Rattle.meaning.specs.Strikes.{mutual_pairs};
 ghost use Rattle.meaning.specs.Solver.{row_by, rows_by, sweeps_by};
@@ -282,8 +282,7 @@ pub fn solve_lent<'a>(
     if !tables::used_cells_ok(heads, entries, orders) {
         return Ruled::Refused(Refusal { number: 8, line: 0 });
     }
-    let line = tables::first_missing_line(heads);
-    if line != 0 {
+    if let Some(line) = tables::first_missing_line(heads) {
         return Ruled::Refused(Refusal { number: 7, line });
     }
     let market = Market { heads, entries };

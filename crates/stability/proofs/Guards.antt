@@ -14,18 +14,19 @@ use Rattle.stability.specs.Test.{long_enough, read_depots, read_beside, read_wit
 use Rattle.stability.specs.Search.{TestTables}
 use Rattle.meaning.specs.Numbers.{◌&◌}
 use Rattle.meaning.specs.Placement.{Placement}
-use Rattle.meaning.specs.Full.{Full, Received, whole, lacking, full}
+use Rattle.meaning.specs.Full.{Full, Received, full}
 use Rattle.meaning.specs.Endings.{table_of}
 use Rattle.meaning.specs.Answers.{SHORT_PART, NOT_RECEIVED, NOT_READ, refusal}
 use Rattle.meaning.specs.Stability.{test_by, test}
 use Rattle.meaning.proofs.Booleans.{and_left, and_right}
 use Rattle.tables.specs.Cells.{HeadRoom}
 use Rattle.tables.specs.Decode.{Sides, sides_of, placement_of}
-use Rattle.tables.specs.Answers.{sized, full_sides, lacking_line}
+use Rattle.tables.specs.Answers.{sized, full_sides, LineOf}
 use Rattle.tables.specs.Walk.{is_some}
 use Rattle.tables.proofs.Round.{sides-count, parts}
 use Rattle.tables.proofs.Seen.{sides-seen}
-use Rattle.tables.proofs.Lines.{full-sides, IsWhole, whole-at-zero}
+use Rattle.std.specs.Prelude.{Some, None}
+use Rattle.tables.proofs.Lines.{IsWhole, of-placement, lacking-at, whole-at-zero}
 use Rattle.tables.proofs.Receipts.{Sizes, sizes}
 use Rattle.tables.proofs.Views.{FullSeen, tables-seen}
 use Rattle.ranks.specs.View.{wishes_of, market_of}
@@ -148,26 +149,17 @@ head-room h e o p k = let q = parts h e o p k in (sides-seen h e q.sides q.sides
 pub few-numbered : (h e o : List ℕ) (n : ℕ) (t : List ℕ) → ReadTables h e o n t → n ≤ 256
 few-numbered h e o n t g = omega (arith, g.trainees, held-trainees h e o g.placement g.held, (head-room h e o g.placement g.held).few_trainees)
 
-module _ (h e o : List ℕ) (n : ℕ) (t : List ℕ) (g : ReadTables h e o n t)
-    (line : ℕ) (gives : (e' : List ℕ) (b : Sides) → sides_of h e' ≡ some b → line ≡ lacking_line (full_sides b)) where
-  line-is : line ≡ lacking_line (full g.placement)
-  line-is =
-      let q = parts h e o g.placement g.held in
-      gives e q.sides q.sides-of ∙ ap lacking_line (sym (full-sides h e o g.placement g.held))
-
-  pub test-lacking : (line ≡ 0 → ⊥) → Refused (refusal NOT_RECEIVED line) ≡ test_of h e o n t
-  unfolding test_if_full lacking_line
-  test-lacking ne = go (full g.placement) line-is ∙ sym g.by
-    where
-      go : (r : Received Full) → line ≡ lacking_line r → Refused (refusal NOT_RECEIVED line) ≡ test_if_full r (take n t)
-      go (whole F) e = absurd (ne e)
-      go (lacking l) e = ap (λ (k : ℕ). Refused (refusal NOT_RECEIVED k)) e
+module _ (h e o : List ℕ) (n : ℕ) (t : List ℕ) (g : ReadTables h e o n t) where
+  pub test-lacking : (line : ℕ) → ((e' : List ℕ) (b : Sides) → sides_of h e' ≡ some b → LineOf (full_sides b) (Some line))
+      → Refused (refusal NOT_RECEIVED line) ≡ test_of h e o n t
+  unfolding test_if_full
+  test-lacking line gives = sym (g.by ∙ rw (lacking-at (full g.placement) line (of-placement h e o g.placement g.held (Some line) gives)))
 
   -- ---- the worker's tables
 
-  module _ (z : line ≡ 0) where
+  module _ (gives : (e' : List ℕ) (b : Sides) → sides_of h e' ≡ some b → LineOf (full_sides b) None) where
     its_full : IsWhole (full g.placement)
-    its_full = whole-at-zero g.placement (sym line-is ∙ z)
+    its_full = whole-at-zero g.placement (of-placement h e o g.placement g.held None gives)
 
     seen : FullSeen h e its_full.value
     seen = (tables-seen h e o g.placement its_full.value g.held its_full.here).sides

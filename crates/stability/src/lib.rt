@@ -234,8 +234,7 @@ pub fn test_table<'a>(
     if !read_ok(heads, entries, orders, n, table) {
         return Tested::Refused(Refusal { number: 8, line: 0 });
     }
-    let line = tables::first_missing_line(heads);
-    if line != 0 {
+    if let Some(line) = tables::first_missing_line(heads) {
         return Tested::Refused(Refusal { number: 7, line });
     }
     let end = usize::from(n);

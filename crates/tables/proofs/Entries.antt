@@ -6,9 +6,12 @@ use mathlib.Core.Bool.{Bool, true, false, not}
 use mathlib.Core.List.{List, [], ◌∷◌}
 use native.Mathlib.Omega.{arith}
 use lib.ListN.{length, get_or, drop, set, length-set, replicate, get_or-replicate, drop_of_length-le}
+use Rattle.std.proofs.Common.{reverse}
+use Rattle.std.proofs.lemmas.List.{length-reverse, get_or-reverse}
+use Rattle.std.proofs.lemmas.Grind.{get_or_default_zero}
 use lib.Seq.{drop-cons, get_or-set_same, get_or-set_other}
-use lib.Dec.{leb, eqb}
-use borrow.Author.Tests.{eqb-true, eqb-false, lt-leb}
+use lib.Dec.{eqb}
+use borrow.Author.Tests.{eqb-true, eqb-false}
 use Rattle.meaning.specs.Numbers.{◌&◌}
 use Rattle.meaning.specs.Lists.{member}
 use Rattle.meaning.proofs.Booleans.{true-or-false, and_left}
@@ -16,18 +19,6 @@ use Rattle.tables.proofs.Tests.{in_within, within_in}
 use Rattle.tables.specs.Decode.{within, good_entries}
 
 -- ---- one number
-
-pub below : (hi x : ℕ) (b : Bool) → x < 1 → within hi x & b ≡ false
-unfolding within ◌&◌
-below hi x b h = rw (lt-leb 1 x h)
-
-pub above : (hi x : ℕ) (b : Bool) → hi < x → within hi x & b ≡ false
-unfolding within ◌&◌
-above hi x b h = go (true-or-false (leb 1 x))
-  where
-    go : (leb 1 x ≡ true) ⊎ (leb 1 x ≡ false) → (leb 1 x & leb x hi) & b ≡ false
-    go (inl t) = rw (t, lt-leb x hi h)
-    go (inr f) = rw f
 
 pub inside : (hi x : ℕ) (b : Bool) → 1 ≤ x → x ≤ hi → within hi x & b ≡ b
 unfolding ◌&◌
@@ -101,6 +92,13 @@ scan-start hi l marks e n =
 pub scan-done : (hi : ℕ) (l : List ℕ) (p : ℕ) (marks : List Bool) → Scanned hi l p marks → p ≡ 0 → true ≡ good_entries hi l
 scan-done hi l p marks s z = sym (ap (λ k. good_entries hi (drop k l)) (sym z) ∙ s.good)
 
+-- the n-th from the last one back
+pub from-behind : (l : List ℕ) (n x : ℕ) → (n < length (reverse l)) × (x ≡ get_or (reverse l) n x) → (n < length l) × (x ≡ get_or l (length l - n - 1) 0)
+from-behind l n x (k, e) =
+    let m : n < length l = omega (arith, k, length-reverse l) in
+    let z : length l - 1 - n ≡ length l - n - 1 = omega arith in
+    (m, e ∙ get_or-reverse l n x m ∙ get_or_default_zero l (length l - 1 - n) x (omega arith) ∙ ap (λ i. get_or l i 0) z)
+
 module _ (hi : ℕ) (l : List ℕ) (p : ℕ) (marks : List Bool) (s : Scanned hi l p marks) (few : hi ≤ 256) (up : 0 < p)
     (x : ℕ) (is : x ≡ get_or l (p - 1) 0) (r : Bool) (fr : r ≡ within hi x & not (get_or marks x false)) where
   front : drop (p - 1) l ≡ x ∷ drop p l
@@ -118,8 +116,8 @@ module _ (hi : ℕ) (l : List ℕ) (p : ℕ) (marks : List Bool) (s : Scanned hi
   pub scan-in : r ≡ true → x ≤ 256
   scan-in t = let b = within_in hi x (and_left _ _ (sym fr ∙ t)) in omega (arith, b.high)
 
-  pub scan-on : r ≡ true → Scanned hi l (p - 1) (set marks x true)
-  scan-on t =
+  on : r ≡ true → Scanned hi l (p - 1) (set marks x true)
+  on t =
       let u = s.top in
       record {
         top = omega arith;
@@ -127,3 +125,6 @@ module _ (hi : ℕ) (l : List ℕ) (p : ℕ) (marks : List Bool) (s : Scanned hi
         room = length-set marks x true ∙ s.room;
         marked = subst (Marked (set marks x true)) (sym front) (mark-more marks x (drop p l) s.room (scan-in t) s.marked);
       }
+
+  pub scan-on : r ≡ true → (q : ℕ) → q ≡ p - 1 → Scanned hi l q (set marks x true)
+  scan-on t q z = rw z (on t)

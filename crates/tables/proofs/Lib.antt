@@ -1,5 +1,6 @@
 -- Laws that several proofs cite, and the theorems about the tables.
 pub mod Tests
+pub mod Orders
 pub mod Series
 pub mod One
 pub mod Round

@@ -2,66 +2,67 @@
 -- Assumes nothing.
 use Prim.Native.Nat.{ℕ, zero, suc, ◌+◌, ◌≤◌, ◌<◌}
 use mathlib.Core.Path.{◌≡◌, refl, sym, ap, ap₂, ◌∙◌, subst}
-use mathlib.Core.Logic.{◌⊎◌, inl, inr}
-use mathlib.Core.Bool.{Bool, true, false}
+use mathlib.Core.Bool.{Bool, true, false, false≢true}
 use mathlib.Core.Option.{Option, none, some}
 use mathlib.Core.List.{List, [], ◌∷◌, ◌++◌}
 use native.Mathlib.Omega.{arith}
 use lib.ListN.{length, get_or}
+use Rattle.std.specs.Prelude.{Option as Answer, Some, None, option_map, cond}
+use Rattle.std.specs.List.{find, range_with_len, FoldsTo}
+use Rattle.std.specs.Bool.{⊤}
+use Rattle.std.specs.Fn.{CalledAt}
+use Rattle.std.specs.Iterator.{YieldsThen}
+use Rattle.std.specs.Option.{MatchOption}
+use Rattle.std.specs.declared.ops.Range.{Range}
+use Rattle.std.proofs.iter.Yields.{nat_range_steps}
+use Rattle.std.proofs.lemmas.Iterator.{YieldsList-from_range}
+use Rattle.std.proofs.lemmas.Iterator.Search.{find_from_yields_List}
+use denote.Param.Members.{Mut}
+use denote.Ref.{Bor}
 use lib.Dec.{eqb}
 use borrow.Author.Tests.{eq-eqb, ne_eqb}
 use Rattle.meaning.specs.Numbers.{◌or◌}
 use Rattle.meaning.specs.Placement.{Placement, depot, LegalList, no_list, a_list, LegalPosts, no_posts, some_posts}
 use Rattle.meaning.specs.Lists.{Each, each_none, each_more}
-use Rattle.meaning.specs.Full.{Full, Received, whole, full, is_not_received, depot_lacks, lines_where, lacking_lines}
+use Rattle.meaning.specs.Full.{Full, Received, whole, lacking, full, is_not_received, depot_lacks, lines_where, lacking_lines}
 use Rattle.meaning.proofs.Full.{Lines, none-lack, first-lacks, full-lines}
-use Rattle.meaning.proofs.Booleans.{true-or-false}
-use Rattle.tables.specs.Cells.{missing_cell, length_cell, posts_cell, trainee_start, depot_start}
-use Rattle.tables.specs.Decode.{Sides, placement_with, placement_of}
-use Rattle.tables.specs.Answers.{full_sides, lacking_line}
-use Rattle.tables.specs.Walk.{first_line, trainee_missing, depot_missing}
-use Rattle.tables.proofs.Seen.{ListSeen, SidesSeen}
+use Rattle.tables.specs.Cells.{HeadRoom, missing_cell, length_cell, posts_cell, trainee_start, depot_start}
+use Rattle.tables.specs.Decode.{Sides, sides_of, placement_with, placement_of}
+use Rattle.tables.specs.Answers.{full_sides, lacking_line, LineOf}
+use Rattle.tables.specs.Walk.{is_some, first_line, trainee_missing, depot_missing}
+use Rattle.tables.proofs.Seen.{ListSeen, SidesSeen, sides-seen}
 use Rattle.tables.proofs.Round.{parts}
 
 -- ---- the loop
 
-module _ (f : ℕ → Bool) (base d i line : ℕ) (inv : line ≡ first_line f base d i) where
-  pub line-here : (d' : ℕ) → d ≡ suc d' → f i ≡ true → base + i ≡ line
-  unfolding first_line
-  line-here d' n t = sym (inv ∙ rw n (rw (t, first_line)))
+-- what the search below `end` finds gives the line
+abbrev pub Found : ℕ → ℕ → ℕ → Answer ℕ → Type 0
+Found base end line (Some k) = (base + k ≡ line) × (k < end)
+Found base end line None = 0 ≡ line
 
-  pub line-more : (d' : ℕ) → d ≡ suc d' → f i ≡ false → line ≡ first_line f base d' (i + 1)
-  unfolding first_line
-  line-more d' n t = inv ∙ rw n (rw (t, first_line))
-
-  pub line-none : d ≡ 0 → 0 ≡ line
-  unfolding first_line
-  line-none n = sym (inv ∙ rw n)
-
-pub line-bound : (f : ℕ → Bool) (base d i : ℕ) → first_line f base d i ≤ base + i + d
+pub line-find : (f : ℕ → Bool) (base d i : ℕ) → Found base (i + d) (first_line f base d i) (find f (range_with_len i d))
 unfolding first_line
-line-bound f base zero i = omega arith
-line-bound f base (suc d) i = go (true-or-false (f i)) (line-bound f base d (i + 1))
+line-find f base zero i = refl
+line-find f base (suc d) i =
+    let z : i + 1 + d ≡ i + suc d = omega arith in
+    go (f i) (find f (range_with_len (i + 1) d)) (first_line f base d (i + 1)) (subst (λ k. Found base k (first_line f base d (i + 1)) (find f (range_with_len (i + 1) d))) z (line-find f base d (i + 1)))
   where
-    go : (f i ≡ true) ⊎ (f i ≡ false) → first_line f base d (i + 1) ≤ base + (i + 1) + d → first_line f base (suc d) i ≤ base + i + suc d
-    go (inl t) w = rw (t, first_line) (omega arith)
-    go (inr u) w = rw (u, first_line) (omega arith)
+    go : (b : Bool) (r : Answer ℕ) (line : ℕ) → Found base (i + suc d) line r → Found base (i + suc d) (elim b [ true ↦ base + i | false ↦ line ]) (cond b (Some i) r)
+    go true r line w = (refl, omega arith)
+    go false r line w = w
 
-pub depot-posts : (h : List ℕ) (n j : ℕ) → get_or h (depot_start n j + 2) 0 ≡ missing_cell → true ≡ depot_missing h n j
-unfolding depot_missing ◌or◌
-depot-posts h n j e = rw (eq-eqb (get_or h (depot_start n j + 2) 0) missing_cell e)
-
-pub depot-list : (h : List ℕ) (n j : ℕ) → (get_or h (depot_start n j + 2) 0 ≡ missing_cell → ⊥) → eqb (get_or h (depot_start n j + 1) 0) missing_cell ≡ depot_missing h n j
-unfolding depot_missing ◌or◌
-depot-list h n j e = rw (ne_eqb (get_or h (depot_start n j + 2) 0) missing_cell e)
-
-pub trainee-lacks : (h : List ℕ) (i : ℕ) → get_or h (trainee_start i + 1) 0 ≡ missing_cell → trainee_missing h i ≡ true
-unfolding trainee_missing
-trainee-lacks h i e = eq-eqb _ _ e
-
-pub trainee-has : (h : List ℕ) (i : ℕ) → (get_or h (trainee_start i + 1) 0 ≡ missing_cell → ⊥) → trainee_missing h i ≡ false
-unfolding trainee_missing
-trainee-has h i e = ne_eqb _ _ e
+-- the same of what `find` answers over 1 to n
+pub line-found : {F : Type 0} {g : Mut F (Bor ℕ × Unit {0}) Bool} {s : Range ℕ} {f : F} {r a : Answer ℕ} (test : ℕ → Bool) (base n : ℕ) (u : Range ℕ)
+    → (xs : List ℕ) × (j : F) × YieldsThen nat_range_steps s xs r u × FoldsTo (λ p x q. CalledAt g p x false q) f xs j × MatchOption r ⊤ (λ x. (h : F) × CalledAt g j x true h)
+    → s ≡ record { start = 1; end = n + 1 } → ((x : ℕ) (b : Bool) (q : F) → CalledAt g f x b q → (q ≡ f) × (b ≡ test x)) → r ≡ a
+    → Found base (1 + n) (first_line test base n 1) a
+line-found {r = r} {a = a} test base n u ran all tells is =
+    subst (Found base (1 + n) (first_line test base n 1))
+    (sym (own r ∙ find_from_yields_List test _ _ _ ran (YieldsList-from_range 1 (n + 1) n all (omega arith)) tells) ∙ is) (line-find test base n 1)
+  where
+    own : (r : Answer ℕ) → r ≡ option_map (λ x. x) r
+    own (Some x) = refl
+    own None = refl
 
 -- ---- the first of the lines that lack something
 
@@ -183,6 +184,25 @@ full-sides h e o p k = ap full (sym (parts h e o p k).is)
 pub record IsWhole {A : Type 0} (r : Received A) : Type 0 where
   pub value : A
   pub here : r ≡ whole value
+
+-- heads that hold a placement have room for everyone
+pub held-room : (h e o : List ℕ) → is_some (placement_of h e o) ≡ true → HeadRoom h
+held-room h e o k = go (placement_of h e o) refl k
+  where
+    go : (q : Option Placement) → placement_of h e o ≡ q → is_some q ≡ true → HeadRoom h
+    go none x t = absurd (false≢true t)
+    go (some p) x t = let q = parts h e o p x in (sides-seen h e q.sides q.sides-of).room
+
+-- what the heads tell of every placement that they hold
+pub of-placement : (h e o : List ℕ) (p : Placement) (k : placement_of h e o ≡ some p) (line : Answer ℕ)
+    → ((e : List ℕ) (b : Sides) → sides_of h e ≡ some b → LineOf (full_sides b) line) → LineOf (full p) line
+of-placement h e o p k line gives = let q = parts h e o p k in subst (λ r. LineOf r line) (sym (full-sides h e o p k)) (gives e q.sides q.sides-of)
+
+-- a line is given only where something is lacking there
+pub lacking-at : {A : Type 0} (r : Received A) (l : ℕ) → LineOf r (Some l) → r ≡ lacking l
+unfolding lacking_line
+lacking-at (whole a) l k = absurd (omega arith)
+lacking-at (lacking i) l k = ap lacking k.0
 
 each-join : {P : ℕ → Type 0} {a b : List ℕ} → Each P a → Each P b → Each P (a ++ b)
 each-join each_none w = w

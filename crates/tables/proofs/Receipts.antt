@@ -8,8 +8,8 @@ use mathlib.Core.List.{List, [], ◌∷◌}
 use native.Mathlib.Omega.{arith}
 use lib.ListN.{length, get_or}
 use lib.Dec.{leb, eqb}
-use borrow.Author.Tests.{leb-true, le-leb, lt-leb, eq-eqb, ne_eqb}
-use Rattle.meaning.specs.Numbers.{In, ◌&◌}
+use borrow.Author.Tests.{leb-true, eq-eqb, ne_eqb}
+use Rattle.meaning.specs.Numbers.{In}
 use Rattle.meaning.specs.Placement.{Placement}
 use Rattle.meaning.specs.Full.{is_not_received}
 use Rattle.meaning.specs.Answers.{SHORT_PART, NOT_READ, refusal}
@@ -17,7 +17,8 @@ use Rattle.meaning.specs.declared.Receipt.{Receipt}
 use Rattle.meaning.proofs.Booleans.{true-or-false, and_left, and_right}
 use Rattle.meaning.proofs.Numbers.{order}
 use Rattle.tables.specs.Cells.{missing_cell, trainee_start}
-use Rattle.tables.specs.Decode.{Sides, sides_of, placement_of}
+use Rattle.tables.specs.Decode.{within, Sides, sides_of, placement_of}
+use Rattle.tables.proofs.Tests.{past}
 use Rattle.tables.specs.Answers.{sized, Said, refused, out_of_range, not_received, received, said_of, said_among, said_by, said_if_held, said, handed_back, receipt_of, trainee_list, trainee_receipt}
 use Rattle.tables.specs.Walk.{is_some}
 use Rattle.tables.proofs.Round.{parts}
@@ -27,18 +28,6 @@ use Rattle.tables.proofs.Lines.{list-cell}
 -- ---- sizes
 
 module _ (h e o : List ℕ) where
-  pub short-heads : length h < 707 → false ≡ sized h e o
-  unfolding sized ◌&◌
-  short-heads k = rw (lt-leb 707 (length h) k)
-
-  pub short-entries : 707 ≤ length h → length e < 8192 → false ≡ sized h e o
-  unfolding sized ◌&◌
-  short-entries a k = rw (le-leb 707 (length h) a, lt-leb 8192 (length e) k)
-
-  pub sized-orders : 707 ≤ length h → 8192 ≤ length e → leb 3073 (length o) ≡ sized h e o
-  unfolding sized ◌&◌
-  sized-orders a b = rw (le-leb 707 (length h) a, le-leb 8192 (length e) b)
-
   pub record Sizes : Type 0 where
     pub heads : 707 ≤ length h
     pub entries : 8192 ≤ length e
@@ -70,17 +59,13 @@ said_in ls zero u = absurd (omega (arith, u.low))
 said_in ls (suc k) u = said_at ls k (omega (arith, u.high))
 
 module _ (h e : List ℕ) (b : Sides) (s : SidesSeen h e b) (i : ℕ) where
-  pub receipt-zero : i < 1 → Receipt.OutOfRange ≡ receipt_of (said_by b.trainees i)
+  pub receipt-out : within (get_or h 1 0) i ≡ false → Receipt.OutOfRange ≡ receipt_of (said_by b.trainees i)
   unfolding receipt_of said_by
-  receipt-zero k = let z : i ≡ 0 = omega arith in rw z
-
-  pub receipt-past : 1 ≤ i → get_or h 1 0 < i → Receipt.OutOfRange ≡ receipt_of (said_by b.trainees i)
-  unfolding receipt_of said_by
-  receipt-past a k = go i k
+  receipt-out f = go i f
     where
-      go : (i : ℕ) → get_or h 1 0 < i → Receipt.OutOfRange ≡ receipt_of (said_by b.trainees i)
-      go zero k = absurd (omega arith)
-      go (suc j) k = sym (ap receipt_of (said-past b.trainees j (omega (arith, s.counts.trainees))))
+      go : (i : ℕ) → within (get_or h 1 0) i ≡ false → Receipt.OutOfRange ≡ receipt_of (said_by b.trainees i)
+      go zero f = refl
+      go (suc j) f = sym (ap receipt_of (said-past b.trainees j (omega (arith, past _ _ (omega arith) f, s.counts.trainees))))
 
   module _ (u : In (get_or h 1 0) i) where
     abbrev list : Option (List ℕ)

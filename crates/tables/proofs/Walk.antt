@@ -1,11 +1,13 @@
 -- The walk over lists and orders: each way through the code, against the decoder. Assumes nothing.
 use Prim.Native.Nat.{ℕ, zero, suc, ◌+◌, ◌-◌, ◌*◌, ◌≤◌, ◌<◌}
-use mathlib.Core.Path.{◌≡◌, refl, sym, ap, ap₂, ◌∙◌, subst}
-use mathlib.Core.Bool.{Bool, true, false, false≢true}
+use mathlib.Core.Path.{◌≡◌, refl, sym, ap, ap₂, ◌∙◌}
+use mathlib.Core.Bool.{Bool, true, false, ◌&&◌, false≢true}
+use mathlib.Core.Logic.{◌⊎◌, inl, inr}
 use mathlib.Core.Option.{Option, none, some}
 use mathlib.Core.List.{List, [], ◌∷◌}
 use native.Mathlib.Omega.{arith}
 use lib.ListN.{length, get_or, take, drop, length-drop}
+use Rattle.std.proofs.Common.{get_or-drop}
 use lib.Seq.{drop-cons, drop-drop, length-take-le}
 use lib.Dec.{leb, eqb}
 use borrow.Author.Tests.{le-leb, lt-leb, eq-eqb, ne_eqb}
@@ -14,11 +16,12 @@ use Rattle.meaning.specs.Lists.{weigh}
 use Rattle.meaning.specs.Placement.{Kind, Order, Depot, depot, size, depot_size}
 use Rattle.meaning.proofs.Booleans.{some-own, none-some}
 use Rattle.tables.proofs.Tests.{when-goes, when-stops}
-use Rattle.tables.specs.Cells.{missing_cell, weightless}
+use Rattle.tables.specs.Cells.{missing_cell, CellGives, weightless, depot_start, order_start}
+use Rattle.std.specs.Option.{MatchOption}
 use Rattle.tables.specs.Decode.{within, next, when, good_entries, list_from, posts_from, trainee_from, depot_from, kind_from, pair_from, order_from, series_from, trainees_from, depots_from, orders_from, limits, Sides, lists_from, sides_of, orders_of, few_orders_of, placement_with, placement_of}
-use Rattle.tables.specs.Walk.{is_some, end_of, Ends}
-use Rattle.tables.specs.declared.End.{End}
-use Rattle.tables.specs.declared.End.TheVariants.{At, Wrong}
+use Rattle.tables.specs.Walk.{is_some, end_of, Ends, all_posts}
+use Rattle.std.specs.Prelude.{Option as Answer, Some, None, slice_range}
+use Rattle.std.specs.List.{range_with_len, list_all}
 use Rattle.tables.proofs.Series.{two_cells, three-cells, series-count}
 use Rattle.tables.proofs.Round.{sides-count}
 
@@ -44,28 +47,38 @@ module _ (hi v s : ℕ) (e : List ℕ) where
     unfolding ◌&◌
     list-long h = list-no (rw (lt-leb v hi h))
 
-    pub list-past : v ≤ hi → length e - s < v → end_of size s (list_from hi v (drop s e)) ≡ none
+    and-turned : (a b : Bool) → a & b ≡ (b & a)
     unfolding ◌&◌
-    list-past h k = list-no (rw (le-leb v hi h, length-drop s e, lt-leb v (length e - s) k))
+    and-turned true true = refl
+    and-turned true false = refl
+    and-turned false true = refl
+    and-turned false false = refl
 
-    module _ (in-hi : v ≤ hi) (st : s ≤ length e) (rest : v ≤ length e - s) where
-      abbrev part : List ℕ
-      part = take (s + v - s) (drop s e)
+    pub list-past : s ≤ length e → (s + v < s) ⊎ (length e < s + v) → end_of size s (list_from hi v (drop s e)) ≡ none
+    unfolding ◌&◌
+    list-past r k =
+        let t : length e - s < v = elim k [ inl x ↦ omega arith | inr y ↦ omega arith ] in
+        list-no (and-turned (leb v hi) _ ∙ rw (length-drop s e, lt-leb v (length e - s) t))
 
-      list-good : fits ≡ good_entries hi part
+    module _ (p : List ℕ) (is : p ≡ slice_range e s (s + v)) (rest : s + v ≤ length e) where
+      part-is : p ≡ take v (drop s e)
+      part-is = let z : s + v - s ≡ v = omega arith in is ∙ rw z
+
+      room : v ≤ length (drop s e)
+      room = rw length-drop (omega arith)
+
+      pub list-bad : good_entries hi p ≡ false → end_of size s (list_from hi v (drop s e)) ≡ none
       unfolding ◌&◌
-      list-good = let z : s + v - s ≡ v = omega arith in rw (z, le-leb v hi in-hi, length-drop s e, le-leb v (length e - s) rest)
+      list-bad g = list-no (and-turned (leb v hi) _ ∙ rw (le-leb v (length (drop s e)) room, sym part-is, g))
 
-      pub list-bad : good_entries hi part ≡ false → end_of size s (list_from hi v (drop s e)) ≡ none
-      list-bad g = list-no (list-good ∙ g)
+      pub list-fits : v ≤ hi → good_entries hi p ≡ true → end_of size s (list_from hi v (drop s e)) ≡ some (s + v)
+      unfolding size ◌&◌
+      list-fits k g =
+          let n : length (take v (drop s e)) ≡ v = length-take-le v (drop s e) room in
+          let f : fits ≡ true = rw (le-leb v hi k, le-leb v (length (drop s e)) room, sym part-is, g) in
+          rw (list-when, when-goes fits _ f) (rw n)
 
-      pub list-fits : good_entries hi part ≡ true → end_of size s (list_from hi v (drop s e)) ≡ some (s + v)
-      unfolding size
-      list-fits g =
-          let n : length (take v (drop s e)) ≡ v = length-take-le v (drop s e) (rw length-drop rest) in
-          rw (list-when, when-goes fits _ (list-good ∙ g)) (rw n)
-
--- ---- one trainee, one depot
+-- ---- one trainee
 
 module _ (m s at : ℕ) (h es : List ℕ) (k : at + 1 < length h) where
   trainee-is : trainee_from m s (drop at h) es ≡ when (eqb (get_or h at 0) s) (list_from m (get_or h (at + 1) 0) es)
@@ -75,49 +88,19 @@ module _ (m s at : ℕ) (h es : List ℕ) (k : at + 1 < length h) where
   pub trainee-wrong : (get_or h at 0 ≡ s → ⊥) → end_of size s (trainee_from m s (drop at h) es) ≡ none
   trainee-wrong g = rw (trainee-is, when-stops _ (list_from m (get_or h (at + 1) 0) es) (ne_eqb _ _ g))
 
-  pub trainee-goes : get_or h at 0 ≡ s → end_of size s (list_from m (get_or h (at + 1) 0) es) ≡ end_of size s (trainee_from m s (drop at h) es)
-  trainee-goes g = sym (rw (trainee-is, when-goes _ (list_from m (get_or h (at + 1) 0) es) (eq-eqb _ _ g)))
-
-module _ (n s at : ℕ) (h es : List ℕ) (k : at + 2 < length h) where
-  rest_of : Option (Option ℕ) → Option Depot
-  rest_of p = next p (λ q. next (list_from n (get_or h (at + 1) 0) es) (λ l. some (depot q l)))
-
-  depot-is : depot_from n s (drop at h) es ≡ when (eqb (get_or h at 0) s) (rest_of (posts_from (get_or h (at + 2) 0)))
-  unfolding depot_from rest_of
-  depot-is = rw (three-cells h at k)
-
-  pub depot-wrong : (get_or h at 0 ≡ s → ⊥) → end_of depot_size s (depot_from n s (drop at h) es) ≡ none
-  depot-wrong g = rw (depot-is, when-stops _ (rest_of (posts_from (get_or h (at + 2) 0))) (ne_eqb _ _ g))
-
-  pub depot-posts : get_or h at 0 ≡ s → is_some (posts_from (get_or h (at + 2) 0)) ≡ false → end_of depot_size s (depot_from n s (drop at h) es) ≡ none
-  unfolding rest_of next
-  depot-posts g f =
-      rw (depot-is, when-goes _ (rest_of (posts_from (get_or h (at + 2) 0))) (eq-eqb _ _ g)) (go (posts_from (get_or h (at + 2) 0)) f)
-    where
-      go : (p : Option (Option ℕ)) → is_some p ≡ false → end_of depot_size s (rest_of p) ≡ none
-      go none x = refl
-      go (some q) x = absurd (false≢true (sym x))
-
-  pub depot-goes : get_or h at 0 ≡ s → is_some (posts_from (get_or h (at + 2) 0)) ≡ true
-      → end_of size s (list_from n (get_or h (at + 1) 0) es) ≡ end_of depot_size s (depot_from n s (drop at h) es)
-  unfolding rest_of next depot_size
-  depot-goes g t =
-      sym (rw (depot-is, when-goes _ (rest_of (posts_from (get_or h (at + 2) 0))) (eq-eqb _ _ g)) (go (posts_from (get_or h (at + 2) 0)) (list_from n (get_or h (at + 1) 0) es) t))
-    where
-      go : (p : Option (Option ℕ)) (o : Option (Option (List ℕ))) → is_some p ≡ true → end_of depot_size s (next p (λ q. next o (λ l. some (depot q l)))) ≡ end_of size s o
-      go none o x = absurd (false≢true x)
-      go (some q) none x = refl
-      go (some q) (some l) x = refl
+  pub trainee-goes : (v : ℕ) → get_or h at 0 ≡ s → v ≡ get_or h (at + 1) 0 → end_of size s (trainee_from m s (drop at h) es) ≡ end_of size s (list_from m v es)
+  trainee-goes v g z = rw (trainee-is, when-goes _ (list_from m (get_or h (at + 1) 0) es) (eq-eqb _ _ g)) (ap (λ v. end_of size s (list_from m v es)) (sym z))
 
 -- ---- one after the other
 
+end-cons : {A : Type 0} (weight : A → ℕ) (s : ℕ) (a : A) (o : Option (List A))
+    → end_of (weigh weight) s (next o (λ r. some (a ∷ r))) ≡ end_of (weigh weight) (s + weight a) o
+unfolding next weigh
+end-cons weight s a none = refl
+end-cons weight s a (some r) = let z : s + (weight a + weigh weight r) ≡ s + weight a + weigh weight r = omega arith in ap some z
+
 module _ {A : Type 0} (one : ℕ → List ℕ → List ℕ → Option A) (weight : A → ℕ) (wide : ℕ) (h e : List ℕ) (at s d : ℕ) (whole : Option ℕ)
     (inv : whole ≡ end_of (weigh weight) s (series_from one weight wide d s (drop at h) (drop s e))) where
-  end-cons : (a : A) (o : Option (List A)) → end_of (weigh weight) s (next o (λ r. some (a ∷ r))) ≡ end_of (weigh weight) (s + weight a) o
-  unfolding next weigh
-  end-cons a none = refl
-  end-cons a (some r) = let z : s + (weight a + weigh weight r) ≡ s + weight a + weigh weight r = omega arith in ap some z
-
   series-step : (d' : ℕ) (a : A) → one s (drop at h) (drop s e) ≡ some a
       → series_from one weight wide (suc d') s (drop at h) (drop s e)
       ≡ next (series_from one weight wide d' (s + weight a) (drop wide (drop at h)) (drop (weight a) (drop s e))) (λ r. some (a ∷ r))
@@ -135,7 +118,7 @@ module _ {A : Type 0} (one : ℕ → List ℕ → List ℕ → Option A) (weight
           let q : s + weight a ≡ t = cc in
           let u : drop wide (drop at h) ≡ drop at' h = drop-drop wide at h ∙ ap (λ i. drop i h) (sym x) in
           let v : drop (weight a) (drop s e) ≡ drop t e = drop-drop (weight a) s e ∙ ap (λ i. drop i e) q in
-          inv ∙ ap (λ i. end_of (weigh weight) s (series_from one weight wide i s (drop at h) (drop s e))) n ∙ ap (end_of (weigh weight) s) (series-step d' a y) ∙ end-cons a (series_from one weight wide d' (s + weight a) (drop wide (drop at h)) (drop (weight a) (drop s e)))
+          inv ∙ ap (λ i. end_of (weigh weight) s (series_from one weight wide i s (drop at h) (drop s e))) n ∙ ap (end_of (weigh weight) s) (series-step d' a y) ∙ end-cons weight s a (series_from one weight wide d' (s + weight a) (drop wide (drop at h)) (drop (weight a) (drop s e)))
           ∙ rw (u, v, q)
 
   pub left-none : (d' : ℕ) → d ≡ suc d' → end_of weight s (one s (drop at h) (drop s e)) ≡ none → whole ≡ none
@@ -152,67 +135,91 @@ module _ {A : Type 0} (one : ℕ → List ℕ → List ℕ → Option A) (weight
 
 -- ---- where the lists of one side end
 
-pub ended_at : (most : ℕ) (o : Option ℕ) {r : End} {t : ℕ} → r ≡ At t → Ends most o r → (o ≡ some t) × (t ≤ most)
-ended_at most o e h = subst (Ends most o) e h
-
-pub ended-wrong : (most : ℕ) (o : Option ℕ) {r : End} → r ≡ Wrong → Ends most o r → o ≡ none
-ended-wrong most o e h = subst (Ends most o) e h
-
 -- d are left, with cells from `at` on and entries from s on; the end of them all is `whole`
 pub record Left {A : Type 0} (one : ℕ → List ℕ → List ℕ → Option A) (weight : A → ℕ) (wide : ℕ) (h e : List ℕ) (whole : Option ℕ) (at s d : ℕ) : Type 0 where
   pub inside : s ≤ length e
   pub rest : whole ≡ end_of (weigh weight) s (series_from one weight wide d s (drop at h) (drop s e))
 
 module _ {A : Type 0} (one : ℕ → List ℕ → List ℕ → Option A) (weight : A → ℕ) (wide : ℕ) (h e : List ℕ) (whole : Option ℕ) (at s d : ℕ) (l : Left one weight wide h e whole at s d) where
-  -- the cells of the next one stand at `here`
-  pub walk-wrong : (here : ℕ) → here ≡ at → (d' : ℕ) → d ≡ suc d' → {r : End} → r ≡ Wrong
-      → Ends (length e) (end_of weight s (one s (drop here h) (drop s e))) r → whole ≡ none
-  walk-wrong here z d' n x y =
-      left-none one weight wide h e at s d whole l.rest d' n (ap (λ a. end_of weight s (one s (drop a h) (drop s e))) (sym z) ∙ ended-wrong (length e) _ x y)
+  pub walk-none : (d' : ℕ) → d ≡ suc d' → Ends (length e) (end_of weight s (one s (drop at h) (drop s e))) None → whole ≡ none
+  walk-none d' n y = left-none one weight wide h e at s d whole l.rest d' n y
 
-  pub walk-on : (here : ℕ) → here ≡ at → (at' d' : ℕ) → d ≡ suc d' → at' ≡ at + wide → {r : End} {t : ℕ} → r ≡ At t
-      → Ends (length e) (end_of weight s (one s (drop here h) (drop s e))) r → Left one weight wide h e whole at' t d'
-  walk-on here z at' d' n w x y =
-      let E = ended_at (length e) _ x y in
-      record { inside = E.1; rest = left-more one weight wide h e at s d whole l.rest d' at' _ n w (ap (λ a. end_of weight s (one s (drop a h) (drop s e))) (sym z) ∙ E.0) }
+  pub walk-on : (at' d' t : ℕ) → d ≡ suc d' → at' ≡ at + wide
+      → Ends (length e) (end_of weight s (one s (drop at h) (drop s e))) (Some t) → Left one weight wide h e whole at' t d'
+  walk-on at' d' t n w y = record { inside = y.1; rest = left-more one weight wide h e at s d whole l.rest d' at' t n w y.0 }
 
-  pub walk-done : d ≡ 0 → Ends (length e) whole (At s)
+  pub walk-done : d ≡ 0 → Ends (length e) whole (Some s)
   walk-done n = (left-done one weight wide h e at s d whole l.rest n, l.inside)
 
--- ---- posts, limits, orders
+-- ---- posts
 
-pub posts-not-received : (v : ℕ) → v ≡ missing_cell → true ≡ is_some (posts_from v)
+when-some : {A : Type 0} (b : Bool) (a : A) → b ≡ is_some (when b (some a))
+unfolding when
+when-some true a = refl
+when-some false a = refl
+
+pub posts-tests : (v : ℕ) (r : Answer ℕ) (b : Bool) {Q : ℕ → Type 0} → CellGives v r → MatchOption r (b ≡ true) Q → ((w : ℕ) → Q w → b ≡ leb w 256) → b ≡ is_some (posts_from v)
 unfolding posts_from
-posts-not-received v h = rw (eq-eqb v missing_cell h, posts_from)
+posts-tests v (Some w) b k m q = rw (ne_eqb v missing_cell k.1, posts_from) (q w m ∙ ap (λ x. leb x 256) k.0 ∙ when-some (leb v 256) (some v))
+posts-tests v None b k m q = rw (eq-eqb v missing_cell k, posts_from) m
 
-pub posts-given : (v : ℕ) → (v ≡ missing_cell → ⊥) → leb v 256 ≡ is_some (posts_from v)
-unfolding posts_from when
-posts-given v h = rw (ne_eqb v missing_cell h, posts_from) (go (leb v 256))
+pub posts-each : (n : ℕ) (h : List ℕ) (d j : ℕ)
+    → list_all (λ j. is_some (posts_from (get_or h (depot_start n j + 2) 0))) (range_with_len j d) ≡ all_posts d (drop (depot_start n j) h)
+unfolding all_posts ◌&◌
+posts-each n h zero j = refl
+posts-each n h (suc d) j =
+    let z : depot_start n j + 3 ≡ depot_start n (j + 1) = omega arith in
+    ap₂ ◌&&◌ (ap (λ p. is_some (posts_from p)) (sym (get_or-drop (depot_start n j) h 2 0)))
+    (posts-each n h d (j + 1) ∙ sym (ap (all_posts d) (drop-drop 3 (depot_start n j) h ∙ ap (λ i. drop i h) z)))
+    ∙ go (is_some (posts_from (get_or (drop (depot_start n j) h) 2 0))) (all_posts d (drop 3 (drop (depot_start n j) h)))
   where
-    go : (b : Bool) → b ≡ is_some (when b (some (some v)))
-    go true = refl
-    go false = refl
+    go : (a b : Bool) → a && b ≡ a & b
+    go true b = refl
+    go false b = refl
 
-pub within_low : (hi x : ℕ) → x < 1 → false ≡ within hi x
-unfolding within ◌&◌
-within_low hi x h = rw (lt-leb 1 x h)
+-- a depot is a list with posts, so the lists' cells, three by three, and the posts decide alone
+depots-are : (n : ℕ) (d s : ℕ) (hs es : List ℕ) → 3 * d ≤ length hs
+    → end_of (weigh depot_size) s (series_from (depot_from n) depot_size 3 d s hs es)
+    ≡ when (all_posts d hs) (end_of (weigh size) s (series_from (trainee_from n) size 3 d s hs es))
+unfolding series_from all_posts when weigh next ◌&◌ depot_size depot_from trainee_from
+depots-are n zero s hs es k = refl
+depots-are n (suc d) s [] es k = absurd (omega arith)
+depots-are n (suc d) s (a ∷ []) es k = absurd (omega arith)
+depots-are n (suc d) s (a ∷ v ∷ []) es k = absurd (omega arith)
+depots-are n (suc d) s (a ∷ v ∷ p ∷ hs) es k = go (eqb a s) (posts_from p) (list_from n v es) (λ w. depots-are n d (s + w) hs (drop w es) (omega arith))
+  where
+    stops : (b : Bool) → ◌≡◌ {A = Option ℕ} none (when b none)
+    stops true = refl
+    stops false = refl
 
-pub within-up : (hi x : ℕ) → 1 ≤ x → leb x hi ≡ within hi x
-unfolding within ◌&◌
-within-up hi x h = rw (le-leb 1 x h)
+    go : (b : Bool) (q : Option (Option ℕ)) (l : Option (Option (List ℕ)))
+        → ((w : ℕ) → end_of (weigh depot_size) (s + w) (series_from (depot_from n) depot_size 3 d (s + w) hs (drop w es))
+        ≡ when (all_posts d hs) (end_of (weigh size) (s + w) (series_from (trainee_from n) size 3 d (s + w) hs (drop w es))))
+        → end_of (weigh depot_size) s (next (when b (next q (λ q. next l (λ l. some (depot q l))))) (λ x. next (series_from (depot_from n) depot_size 3 d (s + depot_size x) hs (drop (depot_size x) es)) (λ r. some (x ∷ r))))
+        ≡ when (is_some q & all_posts d hs) (end_of (weigh size) s (next (when b l) (λ x. next (series_from (trainee_from n) size 3 d (s + size x) hs (drop (size x) es)) (λ r. some (x ∷ r)))))
+    go false q l ih = stops (is_some q & all_posts d hs)
+    go true none l ih = refl
+    go true (some q) none ih = stops (all_posts d hs)
+    go true (some q) (some l) ih =
+        end-cons depot_size s (depot q l) (series_from (depot_from n) depot_size 3 d (s + size l) hs (drop (size l) es)) ∙ ih (size l)
+        ∙ ap (when (all_posts d hs)) (sym (end-cons size s l (series_from (trainee_from n) size 3 d (s + size l) hs (drop (size l) es))))
 
-module _ (ed n m : ℕ) where
-  pub limits-edition : (ed ≡ 1 → ⊥) → false ≡ limits ed n m
-  unfolding limits ◌&◌
-  limits-edition h = rw (ne_eqb ed 1 h)
+-- ---- orders
 
-  pub limits-n : ed ≡ 1 → 256 < n → false ≡ limits ed n m
-  unfolding limits ◌&◌
-  limits-n e h = rw (eq-eqb ed 1 e, lt-leb n 256 h)
-
-  pub limits-m : ed ≡ 1 → n ≤ 256 → leb m 64 ≡ limits ed n m
-  unfolding limits ◌&◌
-  limits-m e k = rw (eq-eqb ed 1 e, le-leb n 256 k)
+pub orders-each : (n m : ℕ) (o : List ℕ) (d k : ℕ)
+    → list_all (λ k. is_some (order_from n m 0 (drop (order_start k) o) [])) (range_with_len k d) ≡ is_some (series_from (order_from n m) weightless 3 d 0 (drop (order_start k) o) [])
+unfolding series_from weightless next
+orders-each n m o zero k = refl
+orders-each n m o (suc d) k =
+    let z : order_start k + 3 ≡ order_start (k + 1) = omega arith in
+    ap (λ b. is_some (order_from n m 0 (drop (order_start k) o) []) && b)
+    (orders-each n m o d (k + 1) ∙ sym (ap (λ r. is_some (series_from (order_from n m) weightless 3 d 0 r [])) (drop-drop 3 (order_start k) o ∙ ap (λ i. drop i o) z)))
+    ∙ go (order_from n m 0 (drop (order_start k) o) []) (series_from (order_from n m) weightless 3 d 0 (drop 3 (drop (order_start k) o)) [])
+  where
+    go : (x : Option Order) (r : Option (List Order)) → is_some x && is_some r ≡ is_some (next x (λ a. next r (λ rest. some (a ∷ rest))))
+    go none r = refl
+    go (some a) none = refl
+    go (some a) (some r) = refl
 
 module _ (n m at : ℕ) (o : List ℕ) (k : at + 2 < length o) where
   abbrev pair : Kind → Option Order
@@ -222,54 +229,19 @@ module _ (n m at : ℕ) (o : List ℕ) (k : at + 2 < length o) where
   unfolding order_from
   order_is = rw (three-cells o at k)
 
-  pub order-unkind : 1 < get_or o at 0 → false ≡ is_some (order_from n m 0 (drop at o) [])
-  unfolding kind_from next
-  order-unkind h = sym (rw order_is (go (get_or o at 0) h))
-    where
-      go : (x : ℕ) → 1 < x → is_some (next (kind_from x) pair) ≡ false
-      go zero h = absurd (omega arith)
-      go (suc zero) h = absurd (omega arith)
-      go (suc (suc x)) h = refl
-
-  pub order-pair : get_or o at 0 ≤ 1 → within n (get_or o (at + 1) 0) & within m (get_or o (at + 2) 0) ≡ is_some (order_from n m 0 (drop at o) [])
-  unfolding kind_from next when pair_from
-  order-pair h = sym (rw order_is (go (get_or o at 0) h))
+  -- the kind is 0 or 1, and both are in range
+  pub order-tests : is_some (order_from n m 0 (drop at o) []) ≡ leb (get_or o at 0) 1 & within n (get_or o (at + 1) 0) & within m (get_or o (at + 2) 0)
+  unfolding kind_from next when pair_from ◌&◌
+  order-tests = rw order_is (go (get_or o at 0))
     where
       when-some : {A : Type 0} (b : Bool) (a : A) → is_some (when b (some a)) ≡ b
       when-some true a = refl
       when-some false a = refl
 
-      go : (x : ℕ) → x ≤ 1 → is_some (next (kind_from x) pair) ≡ within n (get_or o (at + 1) 0) & within m (get_or o (at + 2) 0)
-      go zero h = when-some _ _
-      go (suc zero) h = when-some _ _
-      go (suc (suc x)) h = absurd (omega arith)
-
-  pub order-first : get_or o at 0 ≤ 1 → within n (get_or o (at + 1) 0) ≡ false → false ≡ is_some (order_from n m 0 (drop at o) [])
-  unfolding ◌&◌
-  order-first h f = let z : within n (get_or o (at + 1) 0) & within m (get_or o (at + 2) 0) ≡ false = rw f in sym z ∙ order-pair h
-
-  pub order-second : get_or o at 0 ≤ 1 → within n (get_or o (at + 1) 0) ≡ true → within m (get_or o (at + 2) 0) ≡ is_some (order_from n m 0 (drop at o) [])
-  unfolding ◌&◌
-  order-second h f = let z : within n (get_or o (at + 1) 0) & within m (get_or o (at + 2) 0) ≡ within m (get_or o (at + 2) 0) = rw f in sym z ∙ order-pair h
-
--- ---- whether there is one, by its end
-
-pub is-some : {A : Type 0} (w : A → ℕ) (s : ℕ) (o : Option A) {t : ℕ} → end_of w s o ≡ some t → true ≡ is_some o
-is-some w s none h = none-some h
-is-some w s (some a) h = refl
-
-pub is_none : {A : Type 0} (w : A → ℕ) (s : ℕ) (o : Option A) → end_of w s o ≡ none → false ≡ is_some o
-is_none w s none h = refl
-is_none w s (some a) h = none-some (sym h)
-
-pub some-light : {A : Type 0} (o : Option A) → is_some o ≡ true → end_of weightless 0 o ≡ some 0
-unfolding weightless
-some-light none h = absurd (false≢true h)
-some-light (some a) h = refl
-
-pub none-light : {A : Type 0} (o : Option A) → is_some o ≡ false → end_of weightless 0 o ≡ none
-none-light none h = refl
-none-light (some a) h = absurd (false≢true (sym h))
+      go : (x : ℕ) → is_some (next (kind_from x) pair) ≡ leb x 1 & within n (get_or o (at + 1) 0) & within m (get_or o (at + 2) 0)
+      go zero = when-some _ _
+      go (suc zero) = when-some _ _
+      go (suc (suc x)) = rw (lt-leb (suc (suc x)) 1 (omega arith))
 
 -- ---- both sides
 
@@ -282,57 +254,66 @@ pub ended : {A : Type 0} (w : A → ℕ) (s : ℕ) (o : Option A) {t : ℕ} → 
 ended w s none h = none-some h
 ended w s (some a) {t} h = record { value = a; here = refl; sum = sym (some-own h) }
 
-pub end_after : {A : Type 0} (w : A → ℕ) (s : ℕ) (o : Option A) {t : ℕ} → end_of w s o ≡ some t → s ≤ t
-end_after w s o {t} h = let e = ended w s o h in omega (arith, e.sum)
-
 not-ended : {A : Type 0} (w : A → ℕ) (s : ℕ) (o : Option A) → end_of w s o ≡ none → o ≡ none
 not-ended w s none h = refl
 not-ended w s (some a) h = none-some (sym h)
 
-when-some : {A : Type 0} (b : Bool) (a : A) → b ≡ is_some (when b (some a))
-unfolding when
-when-some true a = refl
-when-some false a = refl
+-- the entries of a side end no further behind s than a side may have
+abbrev short : ℕ → Option ℕ → Bool
+short s none = false
+short s (some f) = leb (f - s) 4096
 
 module _ (ed n m : ℕ) (h e : List ℕ) where
   pub lists-wrong : end_of (weigh size) 0 (trainees_from n m (drop 3 h) e) ≡ none → false ≡ is_some (lists_from ed n m (drop 3 h) e)
   unfolding lists_from next
   lists-wrong g = rw (not-ended (weigh size) 0 (trainees_from n m (drop 3 h) e) g)
 
-  module _ (s : ℕ) (g : end_of (weigh size) 0 (trainees_from n m (drop 3 h) e) ≡ some s) where
-    pub lists-many : 4096 < s → false ≡ is_some (lists_from ed n m (drop 3 h) e)
-    unfolding lists_from next when
-    lists-many k =
-        let t = ended (weigh size) 0 (trainees_from n m (drop 3 h) e) g in
-        let x = t.sum in
-        rw (t.here, lt-leb (weigh size t.value) 4096 (omega arith))
-
-    abbrev ds : Option (List Depot)
-    ds = depots_from n m s (drop (3 + 2 * n) h) (drop s e)
-
+  module _ (s : ℕ) (g : end_of (weigh size) 0 (trainees_from n m (drop 3 h) e) ≡ some s) (room : 3 + 2 * n + 3 * m ≤ length h) where
     abbrev both : List (Option (List ℕ)) → Option (List Depot) → Option Sides
     both ts o = next o (λ ds. when (leb (weigh depot_size ds) 4096) (some (record { edition = ed; trainees = ts; depots = ds })))
 
-    lists-are : s ≤ 4096 → (t : Ended (weigh size) 0 (trainees_from n m (drop 3 h) e) s) → lists_from ed n m (drop 3 h) e ≡ both t.value ds
-    unfolding lists_from next
-    lists-are k t =
+    abbrev lists : Option ℕ
+    lists = end_of (weigh size) s (series_from (trainee_from n) size 3 m s (drop (3 + 2 * n) h) (drop s e))
+
+    -- what decides once the trainees' lists are read
+    lists-tests : is_some (lists_from ed n m (drop 3 h) e) ≡ leb s 4096 & short s (when (all_posts m (drop (3 + 2 * n) h)) lists)
+    unfolding lists_from next when ◌&◌
+    lists-tests =
+        let t = ended (weigh size) 0 (trainees_from n m (drop 3 h) e) g in
         let x : weigh size t.value ≡ s = omega (arith, t.sum) in
-        rw t.here (when-goes _ _ (le-leb (weigh size t.value) 4096 (omega arith)) ∙ rw (x, drop-drop (2 * n) 3 h))
+        let ds = depots_from n m s (drop (3 + 2 * n) h) (drop s e) in
+        let k : 3 * m ≤ length (drop (3 + 2 * n) h) = simp length-drop (omega arith) in
+        rw (t.here, x, drop-drop (2 * n) 3 h) (go t.value (leb s 4096) ds) ∙ ap (λ o. leb s 4096 & short s o) (depots-are n m s (drop (3 + 2 * n) h) (drop s e) k)
+      where
+        here : (ts : List (Option (List ℕ))) (ds : Option (List Depot)) → is_some (both ts ds) ≡ short s (end_of (weigh depot_size) s ds)
+        here ts none = refl
+        here ts (some ds) =
+            let z : s + weigh depot_size ds - s ≡ weigh depot_size ds = omega arith in
+            sym (rw z (when-some (leb (weigh depot_size ds) 4096) (record { edition = ed; trainees = ts; depots = ds })))
 
-    pub lists-depots : s ≤ 4096 → end_of (weigh depot_size) s ds ≡ none → false ≡ is_some (lists_from ed n m (drop 3 h) e)
-    unfolding next
-    lists-depots k b =
-        let t = ended (weigh size) 0 (trainees_from n m (drop 3 h) e) g in
-        sym (ap is_some (lists-are k t) ∙ rw (not-ended (weigh depot_size) s ds b))
+        go : (ts : List (Option (List ℕ))) (b : Bool) (ds : Option (List Depot)) → is_some (when b (both ts ds)) ≡ b & short s (end_of (weigh depot_size) s ds)
+        go ts true ds = here ts ds
+        go ts false ds = refl
 
-    pub lists-end : s ≤ 4096 → (f : ℕ) → end_of (weigh depot_size) s ds ≡ some f → leb (f - s) 4096 ≡ is_some (lists_from ed n m (drop 3 h) e)
-    unfolding next
-    lists-end k f b =
-        let t = ended (weigh size) 0 (trainees_from n m (drop 3 h) e) g in
-        let d = ended (weigh depot_size) s ds b in
-        let x : f - s ≡ weigh depot_size d.value = omega (arith, d.sum) in
-        ap (λ z. leb z 4096) x ∙ when-some {A = Sides} (leb (weigh depot_size d.value) 4096) (record { edition = ed; trainees = t.value; depots = d.value })
-        ∙ sym (ap is_some (lists-are k t) ∙ ap (λ q. is_some (both t.value q)) d.here)
+    pub lists-none : lists ≡ none → false ≡ is_some (lists_from ed n m (drop 3 h) e)
+    unfolding when ◌&◌
+    lists-none q = sym (lists-tests ∙ rw q (go (leb s 4096) (all_posts m (drop (3 + 2 * n) h))))
+      where
+        go : (a b : Bool) → a & short s (when b none) ≡ false
+        go true true = refl
+        go true false = refl
+        go false b = refl
+
+    pub lists-end : (f : ℕ) → lists ≡ some f → is_some (lists_from ed n m (drop 3 h) e) ≡ leb s 4096 & leb (f - s) 4096 & all_posts m (drop (3 + 2 * n) h)
+    unfolding when ◌&◌
+    lists-end f q = lists-tests ∙ rw q (go (leb s 4096) (leb (f - s) 4096) (all_posts m (drop (3 + 2 * n) h)) refl)
+      where
+        go : (a b c : Bool) → b ≡ leb (f - s) 4096 → a & short s (when c (some f)) ≡ a & b & c
+        go true true true k = sym k
+        go true true false k = refl
+        go true false true k = sym k
+        go true false false k = refl
+        go false b c k = refl
 
 module _ (h e : List ℕ) (k : 2 < length h) (ed n m : ℕ) (x : ed ≡ get_or h 0 0) (y : n ≡ get_or h 1 0) (z : m ≡ get_or h 2 0) where
   sides-are : sides_of h e ≡ when (limits ed n m) (lists_from (get_or h 0 0) n m (drop 3 h) e)

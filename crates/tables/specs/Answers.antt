@@ -1,6 +1,6 @@
 -- What is answered of tables: their sizes (number 1), the first line where something was not received (number 7), and a trainee's list.
 -- Assumes nothing.
-use Rattle.std.specs.Prelude.{ℕ, zero, suc, Bool, true, false, List, [], ◌∷◌, length, leb}
+use Rattle.std.specs.Prelude.{Option as Answer, Some, None, ◌≡◌, ◌<◌, ℕ, zero, suc, Bool, true, false, List, [], ◌∷◌, length, leb}
 use Rattle.std.proofs.Math.Option.{Option, none, some}
 use Rattle.meaning.specs.Numbers.{◌&◌}
 use Rattle.meaning.specs.Placement.{Placement}
@@ -25,6 +25,11 @@ full_sides b = full (placement_with b [])
 unfoldable pub lacking_line : {A : Type 0} → Received A → ℕ
 lacking_line (whole a) = 0
 lacking_line (lacking l) = l
+
+-- the answer is that line, or there is none where it is 0
+abbrev pub LineOf : {A : Type 0} → Received A → Answer ℕ → Type 0
+LineOf r (Some l) = (lacking_line r ≡ l) × (0 < l)
+LineOf r None = lacking_line r ≡ 0
 
 -- ---- a trainee's list
 

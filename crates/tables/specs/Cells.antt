@@ -1,7 +1,7 @@
 -- The cells that hold a placement: each table's used cells, in order, as functions of the placement.
 -- A start is where a list begins in the entries; a list not received starts where it would and has no cells there.
 -- Assumes nothing.
-use Rattle.std.specs.Prelude.{ℕ, ◌+◌, ◌*◌, ◌≤◌, ◌≡◌, List, [], ◌∷◌, ◌++◌, length, get_or, take, drop}
+use Rattle.std.specs.Prelude.{Option as Answer, Some, None, ℕ, ◌+◌, ◌*◌, ◌≤◌, ◌≡◌, List, [], ◌∷◌, ◌++◌, length, get_or, take, drop}
 use Rattle.std.proofs.Math.Option.{Option, none, some}
 use Rattle.meaning.specs.Lists.{weigh}
 use Rattle.meaning.specs.Placement.{Kind, held, barred, Order, Depot, depot, Placement, size, depot_size, Legal}
@@ -9,6 +9,11 @@ use Rattle.meaning.specs.Placement.{Kind, held, barred, Order, Depot, depot, Pla
 -- the cell of a length or of posts not received
 abbrev pub missing_cell : ℕ
 missing_cell = 65535
+
+-- the answer to what such a cell gives: its number, or none where nothing was received
+abbrev pub CellGives : ℕ → Answer ℕ → Type 0
+CellGives v (Some w) = (w ≡ v) × (v ≡ missing_cell → ⊥)
+CellGives v None = v ≡ missing_cell
 
 unfoldable pub posts_cell : Option ℕ → ℕ
 posts_cell none = missing_cell

@@ -2,4 +2,5 @@
 pub mod Cells
 pub mod Decode
 pub mod Answers
+pub mod Kinds
 pub mod Walk

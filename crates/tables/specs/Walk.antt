@@ -1,10 +1,10 @@
 -- What the steps of the walks over the tables are promised against. Assumes nothing.
-use Rattle.std.specs.Prelude.{ℕ, zero, suc, ◌+◌, ◌≤◌, ◌≡◌, Bool, true, false, List, get_or, eqb}
+use Rattle.std.specs.Prelude.{ℕ, zero, suc, ◌+◌, ◌≤◌, ◌≡◌, Bool, true, false, List, drop, get_or, eqb}
 use Rattle.std.proofs.Math.Option.{Option, none, some}
-use Rattle.meaning.specs.Numbers.{◌or◌}
+use Rattle.meaning.specs.Numbers.{◌&◌, ◌or◌}
 use Rattle.tables.specs.Cells.{missing_cell, trainee_start, depot_start}
-use Rattle.tables.specs.declared.End.{End}
-use Rattle.tables.specs.declared.End.TheVariants.{At, Wrong}
+use Rattle.tables.specs.Decode.{posts_from}
+use Rattle.std.specs.Prelude.{Option as Answer, Some, None}
 
 abbrev pub is_some : {A : Type 0} → Option A → Bool
 is_some none = false
@@ -16,9 +16,14 @@ end_of w s none = none
 end_of w s (some a) = some (s + w a)
 
 -- the answer is that end, which is no further than `most`; or there is none
-abbrev pub Ends : ℕ → Option ℕ → End → Type 0
-Ends most o (At t) = (o ≡ some t) × (t ≤ most)
-Ends most o Wrong = o ≡ none
+abbrev pub Ends : ℕ → Option ℕ → Answer ℕ → Type 0
+Ends most o (Some t) = (o ≡ some t) × (t ≤ most)
+Ends most o None = o ≡ none
+
+-- the posts of each of d depots, whose cells are in front, are in range, or not received
+unfoldable pub all_posts : ℕ → List ℕ → Bool
+all_posts zero hs = true
+all_posts (suc d) hs = is_some (posts_from (get_or hs 2 0)) & all_posts d (drop 3 hs)
 
 -- ---- the first line where something was not received, read off the heads
 

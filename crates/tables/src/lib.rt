@@ -1,20 +1,48 @@
 // The lent tables: what their cells hold, and what can be read from them.
 #![tactic(auto)]
 
-ghost use Rattle.std.specs.Prelude.{◌≡◌, not, false, List, [], ℕ, ◌+◌, ◌-◌, ◌*◌, ◌≤◌, ◌<◌, length, get_or, drop};
+ghost use Rattle.std.specs.Prelude.{◌≡◌, not, false, List, [], ℕ, ◌+◌, ◌-◌, ◌*◌, ◌≤◌, ◌<◌, length, get_or, drop, true, MatchResult};
 ghost use Rattle.std.proofs.Math.Option.{some};
 ghost use Rattle.meaning.specs.Numbers.{◌&◌};
 ghost use Rattle.meaning.specs.Lists.{weigh};
-ghost use Rattle.meaning.specs.Placement.{size, depot_size};
-ghost use Rattle.tables.specs.Cells.{trainee_start, depot_start, order_start, part, HeadRoom};
-ghost use Rattle.tables.specs.Decode.{within, good_entries, list_from, posts_from, trainee_from, depot_from, order_from, trainees_from, depots_from, orders_from, limits, Sides, lists_from, sides_of, few_orders_of, placement_of};
-ghost use Rattle.tables.specs.Answers.{sized, full_sides, lacking_line, said_by, receipt_of, trainee_list, trainee_receipt};
-ghost use Rattle.tables.specs.Walk.{is_some, end_of, Ends, first_line, trainee_missing, depot_missing};
+ghost use Rattle.meaning.specs.Placement.{Placement, size};
+ghost use Rattle.meaning.specs.Full.{full};
+ghost use Rattle.tables.specs.Cells.{CellGives, trainee_start, depot_start, order_start, part, HeadRoom};
+ghost use Rattle.tables.specs.Decode.{within, good_entries, posts_from, trainee_from, order_from, orders_from, series_from, limits, Sides, lists_from, sides_of, few_orders_of, placement_of};
+ghost use Rattle.tables.specs.Answers.{sized, full_sides, LineOf, said_by, receipt_of, trainee_list, trainee_receipt};
+ghost use Rattle.tables.specs.Kinds.{Stands, KindGives};
+ghost use Rattle.tables.specs.Walk.{is_some, end_of, Ends, all_posts, trainee_missing, depot_missing};
 
-use meaning::{Receipt, Refusal};
+use meaning::{Fault, Receipt, Refusal};
 
-// A length or posts not received.
-pub const NOT_RECEIVED: usize = 65535;
+// What an order says of its pair.
+#[derive(Clone, Copy, PartialEq, Eq)]
+pub enum Kind {
+    Held,
+    Barred,
+}
+
+// A cell that stands for no kind.
+#[derive(Clone, Copy, PartialEq, Eq)]
+pub struct UnknownKind(pub u16);
+
+impl TryFrom<u16> for Kind {
+    type Error = UnknownKind;
+
+    ghost try_from_gives = { Stands };
+
+    // The kind that a cell stands for.
+    fn try_from(cell: u16) -> Result<Self, UnknownKind> {
+        match cell {
+            0 => Ok(Kind::Held),
+            1 => Ok(Kind::Barred),
+            _ => Err(UnknownKind(cell)),
+        }
+    }
+}
+
+// The cell of a length or of posts not received.
+const NOT_RECEIVED: usize = 65535;
 
 // The number in a cell.
 fn cell(table: &[u16], at: usize) -> usize
@@ -22,6 +50,15 @@ fn cell(table: &[u16], at: usize) -> usize
     ensures { result ≡ get_or table.now at 0 }
 {
     table[at] as usize
+}
+
+// The length or the posts in a cell; none where they were not received.
+fn received(table: &[u16], at: usize) -> Option<usize>
+    requires { at < length table.now }
+    ensures { CellGives (get_or table.now at 0) result }
+{
+    let v = cell(table, at);
+    if v == NOT_RECEIVED { None } else { Some(v) }
 }
 
 // The edition.
@@ -72,20 +109,20 @@ pub fn start_of(heads: &[u16], at: usize) -> usize
     cell(heads, at)
 }
 
-// The length of the list whose cells stand at `at`, or NOT_RECEIVED.
-pub fn length_of(heads: &[u16], at: usize) -> usize
+// The length of the list whose cells stand at `at`; none where the list was not received.
+pub fn length_of(heads: &[u16], at: usize) -> Option<usize>
     requires { at + 1 < length heads.now }
-    ensures { result ≡ get_or heads.now (at + 1) 0 }
+    ensures { CellGives (get_or heads.now (at + 1) 0) result }
 {
-    cell(heads, at + 1)
+    received(heads, at + 1)
 }
 
-// The posts of the depot whose cells stand at `at`, or NOT_RECEIVED.
-pub fn posts_of(heads: &[u16], at: usize) -> usize
+// The posts of the depot whose cells stand at `at`; none where they were not received.
+pub fn posts_of(heads: &[u16], at: usize) -> Option<usize>
     requires { at + 2 < length heads.now }
-    ensures { result ≡ get_or heads.now (at + 2) 0 }
+    ensures { CellGives (get_or heads.now (at + 2) 0) result }
 {
-    cell(heads, at + 2)
+    received(heads, at + 2)
 }
 
 // The one whom a list names at place p.
@@ -112,12 +149,12 @@ pub fn order_at(k: usize) -> usize
     3 * k + 1
 }
 
-// The kind of the order whose cells stand at `at`: 0 held, 1 barred.
-pub fn order_kind(orders: &[u16], at: usize) -> usize
+// The kind of the order whose cells stand at `at`; none where the cell stands for no kind.
+pub fn order_kind(orders: &[u16], at: usize) -> Option<Kind>
     requires { at < length orders.now }
-    ensures { result ≡ get_or orders.now at 0 }
+    ensures { KindGives (get_or orders.now at 0) result }
 {
-    cell(orders, at)
+    Kind::try_from(orders[at]).ok()
 }
 
 // The trainee of the order whose cells stand at `at`.
@@ -142,15 +179,15 @@ pub fn list_at<'a>(heads: &[u16], entries: &'a [u16], at: usize) -> &'a [u16]
     ensures { result.now ≡ part heads.now entries.now at }
 {
     let start = start_of(heads, at);
-    let end = start + length_of(heads, at);
+    let end = start + cell(heads, at + 1);
     &entries[start..end]
 }
 
-// Where the entries of one list, or of several, end; or no reader could have filled the cells.
-#[derive(Clone, Copy)]
-enum End {
-    At(usize),
-    Wrong,
+// Whether x is one of 1 to hi.
+fn in_range(x: usize, hi: usize) -> bool
+    ensures { result ≡ within hi x }
+{
+    1 <= x && x <= hi
 }
 
 // Whether x is one of 1 to hi and has no mark.
@@ -158,13 +195,7 @@ fn fresh(marks: &[bool; 257], x: usize, hi: usize) -> bool
     requires { hi ≤ 256 }
     ensures { result ≡ within hi x & not (get_or marks.now x false) }
 {
-    if x < 1 {
-        return false;
-    }
-    if hi < x {
-        return false;
-    }
-    !marks[x]
+    in_range(x, hi) && !marks[x]
 }
 
 // Whether a list names only 1 to hi and nobody twice; from the last one back, so that the marks are those of the entries behind.
@@ -173,10 +204,8 @@ fn good_entries(list: &[u16], hi: usize) -> bool
     ensures { result ≡ good_entries hi list.now }
 {
     let mut marks: [bool; 257] = [false; 257];
-    let mut p = list.len();
-    while 0 < p {
-        p -= 1;
-        let x = entry_of(list, p);
+    for x in list.iter().rev() {
+        let x = *x as usize;
         if !fresh(&marks, x, hi) {
             return false;
         }
@@ -185,118 +214,71 @@ fn good_entries(list: &[u16], hi: usize) -> bool
     true
 }
 
-// The end of the list that starts at s and has the length cell v.
-fn list_end(entries: &[u16], s: usize, v: usize, hi: usize) -> End
-    requires { (s ≤ length entries.now) × (hi ≤ 256) }
-    ensures { Ends (length entries.now) (end_of size s (list_from hi v (drop s entries.now))) result }
+// Where the list ends whose cells stand at `at` and whose entries start at s; none if no reader could have filled the cells.
+fn list_end(heads: &[u16], entries: &[u16], at: usize, s: usize, hi: usize) -> Option<usize>
+    requires { (at + 1 < length heads.now) × (s ≤ length entries.now) × (hi ≤ 256) }
+    ensures { Ends (length entries.now) (end_of size s (trainee_from hi s (drop at heads.now) (drop s entries.now))) result }
 {
-    if v == NOT_RECEIVED {
-        return End::At(s);
+    if start_of(heads, at) != s {
+        return None;
     }
-    if hi < v {
-        return End::Wrong;
-    }
-    if entries.len() - s < v {
-        return End::Wrong;
-    }
+    let Some(v) = length_of(heads, at) else {
+        return Some(s);
+    };
     let to = s + v;
-    let list = &entries[s..to];
-    if !good_entries(list, hi) {
-        return End::Wrong;
+    let list = entries.get(s..to)?;
+    if v <= hi && good_entries(list, hi) {
+        Some(to)
+    } else {
+        None
     }
-    End::At(to)
 }
 
-// The end of the list of the trainee whose cells stand at `at`.
-fn trainee_end(heads: &[u16], entries: &[u16], at: usize, s: usize, m: usize) -> End
-    requires { (at + 1 < length heads.now) × (s ≤ length entries.now) × (m ≤ 256) }
-    ensures { Ends (length entries.now) (end_of size s (trainee_from m s (drop at heads.now) (drop s entries.now))) result }
-{
-    if start_of(heads, at) != s {
-        return End::Wrong;
-    }
-    list_end(entries, s, length_of(heads, at), m)
+// Where the cells of one side's lists stand in the heads, `wide` of them for each, and up to whom the lists name.
+#[derive(Clone, Copy)]
+struct Side {
+    first: usize,
+    wide: usize,
+    count: usize,
+    named: usize,
+    ghost limits: { (2 ≤ wide) × (wide ≤ 3) × (count ≤ 256) × (named ≤ 256) },
 }
 
-// The end of all trainees' lists.
-fn trainees_end(heads: &[u16], entries: &[u16], n: usize, m: usize) -> End
-    requires { (3 + 2 * n ≤ length heads.now) × (n ≤ 256) × (m ≤ 256) }
-    ensures { Ends (length entries.now) (end_of (weigh size) 0 (trainees_from n m (drop 3 heads.now) entries.now)) result }
-{
-    let mut s: usize = 0;
-    let mut i: usize = 1;
-    while i <= n {
-        let t = trainee_end(heads, entries, trainee_at(i), s, m);
-        match t {
-            End::Wrong => {
-                return End::Wrong;
-            }
-            End::At(next) => {
-                s = next;
-                i += 1;
-            }
+impl Side {
+    // Where the last of the lists ends, if the entries of the first start at `start`.
+    fn end(self, heads: &[u16], entries: &[u16], start: usize) -> Option<usize>
+        requires { (self.first + self.wide * self.count ≤ length heads.now) × (start ≤ length entries.now) }
+        ensures { Ends (length entries.now) (end_of (weigh size) start (series_from (trainee_from self.named) size self.wide self.count start (drop self.first heads.now) (drop start entries.now))) result }
+    {
+        let mut s = start;
+        for k in 0..self.count {
+            s = list_end(heads, entries, self.first + self.wide * k, s, self.named)?;
         }
+        Some(s)
     }
-    End::At(s)
 }
 
-// Whether posts were received in range, or not received.
-fn posts_ok(v: usize) -> bool
-    ensures { result ≡ is_some (posts_from v) }
+// Whether the posts of the depot whose cells stand at `at` are in range, or not received.
+fn posts_ok(heads: &[u16], at: usize) -> bool
+    requires { at + 2 < length heads.now }
+    ensures { result ≡ is_some (posts_from (get_or heads.now (at + 2) 0)) }
 {
-    if v == NOT_RECEIVED {
-        return true;
-    }
-    v <= 256
+    posts_of(heads, at).is_none_or(|v| v <= 256)
 }
 
-// The end of the list of the depot whose cells stand at `at`.
-fn depot_end(heads: &[u16], entries: &[u16], at: usize, s: usize, n: usize) -> End
-    requires { (at + 2 < length heads.now) × (s ≤ length entries.now) × (n ≤ 256) }
-    ensures { Ends (length entries.now) (end_of depot_size s (depot_from n s (drop at heads.now) (drop s entries.now))) result }
+// Whether the posts of each of m depots are in range, or not received.
+fn all_posts_ok(heads: &[u16], n: usize, m: usize) -> bool
+    requires { (3 + 2 * n + 3 * m ≤ length heads.now) × (n ≤ 256) × (m ≤ 64) }
+    ensures { result ≡ all_posts m (drop (3 + 2 * n) heads.now) }
 {
-    if start_of(heads, at) != s {
-        return End::Wrong;
-    }
-    if !posts_ok(posts_of(heads, at)) {
-        return End::Wrong;
-    }
-    list_end(entries, s, length_of(heads, at), n)
-}
-
-// The end of all depots' lists, whose entries begin at `start`.
-fn depots_end(heads: &[u16], entries: &[u16], start: usize, n: usize, m: usize) -> End
-    requires { (3 + 2 * n + 3 * m ≤ length heads.now) × (start ≤ length entries.now) × (n ≤ 256) × (m ≤ 64) }
-    ensures { Ends (length entries.now) (end_of (weigh depot_size) start (depots_from n m start (drop (3 + 2 * n) heads.now) (drop start entries.now))) result }
-{
-    let mut s = start;
-    let mut j: usize = 1;
-    while j <= m {
-        let t = depot_end(heads, entries, depot_at(n, j), s, n);
-        match t {
-            End::Wrong => {
-                return End::Wrong;
-            }
-            End::At(next) => {
-                s = next;
-                j += 1;
-            }
-        }
-    }
-    End::At(s)
+    (1..m + 1).all(|j| posts_ok(heads, depot_at(n, j)))
 }
 
 // Whether the edition is this reader's, and n and m are in range.
 fn limits_ok(edition: usize, n: usize, m: usize) -> bool
     ensures { result ≡ limits edition n m }
 {
-    if edition != 1 {
-        return false;
-    }
-    if 256 < n {
-        return false;
-    }
-    m <= 64
+    edition == 1 && n <= 256 && m <= 64
 }
 
 // Whether the lists and posts are ones that a reader fills.
@@ -304,20 +286,25 @@ fn lists_ok(heads: &[u16], entries: &[u16], n: usize, m: usize) -> bool
     requires { (707 ≤ length heads.now) × (n ≤ 256) × (m ≤ 64) }
     ensures { result ≡ is_some (lists_from (get_or heads.now 0 0) n m (drop 3 heads.now) entries.now) }
 {
-    let t = trainees_end(heads, entries, n, m);
-    match t {
-        End::Wrong => false,
-        End::At(s) => {
-            if 4096 < s {
-                return false;
-            }
-            let d = depots_end(heads, entries, s, n, m);
-            match d {
-                End::Wrong => false,
-                End::At(f) => f - s <= 4096,
-            }
-        }
-    }
+    let trainees = Side {
+        first: 3,
+        wide: 2,
+        count: n,
+        named: m,
+    };
+    let depots = Side {
+        first: 3 + 2 * n,
+        wide: 3,
+        count: m,
+        named: n,
+    };
+    let Some(s) = trainees.end(heads, entries, 0) else {
+        return false;
+    };
+    let Some(f) = depots.end(heads, entries, s) else {
+        return false;
+    };
+    s <= 4096 && f - s <= 4096 && all_posts_ok(heads, n, m)
 }
 
 // Whether heads and entries hold the sides of a placement.
@@ -327,20 +314,7 @@ pub fn sides_ok(heads: &[u16], entries: &[u16]) -> bool
 {
     let n = trainees_of(heads);
     let m = depots_of(heads);
-    if !limits_ok(edition_of(heads), n, m) {
-        return false;
-    }
-    lists_ok(heads, entries, n, m)
-}
-
-// Whether x is one of 1 to hi.
-fn in_range(x: usize, hi: usize) -> bool
-    ensures { result ≡ within hi x }
-{
-    if x < 1 {
-        return false;
-    }
-    x <= hi
+    limits_ok(edition_of(heads), n, m) && lists_ok(heads, entries, n, m)
 }
 
 // Whether the cells at `at` are an order.
@@ -348,13 +322,9 @@ fn order_ok(orders: &[u16], at: usize, n: usize, m: usize) -> bool
     requires { at + 2 < length orders.now }
     ensures { result ≡ is_some (order_from n m 0 (drop at orders.now) []) }
 {
-    if 1 < order_kind(orders, at) {
-        return false;
-    }
-    if !in_range(order_trainee(orders, at), n) {
-        return false;
-    }
-    in_range(order_depot(orders, at), m)
+    order_kind(orders, at).is_some()
+        && in_range(order_trainee(orders, at), n)
+        && in_range(order_depot(orders, at), m)
 }
 
 // Whether the first `count` orders are ones.
@@ -362,14 +332,7 @@ fn first_orders_ok(orders: &[u16], count: usize, n: usize, m: usize) -> bool
     requires { (1 + 3 * count ≤ length orders.now) × (count ≤ 1024) }
     ensures { result ≡ is_some (orders_from n m count (drop 1 orders.now)) }
 {
-    let mut k: usize = 0;
-    while k < count {
-        if !order_ok(orders, order_at(k), n, m) {
-            return false;
-        }
-        k += 1;
-    }
-    true
+    (0..count).all(|k| order_ok(orders, order_at(k), n, m))
 }
 
 // Whether a table holds orders of n trainees and m depots, no more than a file may have.
@@ -378,10 +341,7 @@ pub fn orders_ok(orders: &[u16], n: usize, m: usize) -> bool
     ensures { result ≡ is_some (few_orders_of n m orders.now) }
 {
     let count = orders_of(orders);
-    if 1024 < count {
-        return false;
-    }
-    first_orders_ok(orders, count, n, m)
+    count <= 1024 && first_orders_ok(orders, count, n, m)
 }
 
 // Whether a reader could have filled the used cells: number 8 is given back where none could, which is where no legal placement has these fronts
@@ -390,25 +350,15 @@ pub fn used_cells_ok(heads: &[u16], entries: &[u16], orders: &[u16]) -> bool
     requires { (707 ≤ length heads.now) × (3073 ≤ length orders.now) }
     ensures { result ≡ is_some (placement_of heads.now entries.now orders.now) }
 {
-    if !sides_ok(heads, entries) {
-        return false;
-    }
-    orders_ok(orders, trainees_of(heads), depots_of(heads))
+    sides_ok(heads, entries) && orders_ok(orders, trainees_of(heads), depots_of(heads))
 }
 
-// The line of the first trainee whose list was not received; 0 for none.
-fn missing_trainee(heads: &[u16], n: usize) -> usize
-    requires { (3 + 2 * n ≤ length heads.now) × (n ≤ 256) }
-    ensures { result ≡ first_line (trainee_missing heads.now) 1 n 1 }
+// Whether trainee i's list was not received.
+fn trainee_lacks(heads: &[u16], i: usize) -> bool
+    requires { (2 * i + 2 < length heads.now) × (i ≤ 256) }
+    ensures { result ≡ trainee_missing heads.now i }
 {
-    let mut i: usize = 1;
-    while i <= n {
-        if length_of(heads, trainee_at(i)) == NOT_RECEIVED {
-            return 1 + i;
-        }
-        i += 1;
-    }
-    0
+    length_of(heads, trainee_at(i)).is_none()
 }
 
 // Whether depot j's posts or list were not received.
@@ -417,52 +367,107 @@ fn depot_lacks(heads: &[u16], n: usize, j: usize) -> bool
     ensures { result ≡ depot_missing heads.now n j }
 {
     let at = depot_at(n, j);
-    if posts_of(heads, at) == NOT_RECEIVED {
-        return true;
-    }
-    length_of(heads, at) == NOT_RECEIVED
+    posts_of(heads, at).is_none() || length_of(heads, at).is_none()
 }
 
-// The line of the first depot whose posts or list were not received; 0 for none.
-fn missing_depot(heads: &[u16], n: usize, m: usize) -> usize
-    requires { (3 + 2 * n + 3 * m ≤ length heads.now) × (n ≤ 256) × (m ≤ 64) }
-    ensures { result ≡ first_line (depot_missing heads.now n) (n + 1) m 1 }
-{
-    let mut j: usize = 1;
-    while j <= m {
-        if depot_lacks(heads, n, j) {
-            return n + 1 + j;
-        }
-        j += 1;
-    }
-    0
-}
-
-// The line that number 7 gives for heads that hold a placement's, whatever the entries beside them; 0 where all was received (`whole-at-zero`,
+// The line that number 7 gives for heads that hold a placement's, whatever the entries beside them; none where all was received (`whole-at-zero`,
 // proofs/Lines).
-pub fn first_missing_line(heads: &[u16]) -> u16
+pub fn first_missing_line(heads: &[u16]) -> Option<u16>
     requires { HeadRoom heads.now }
-    ensures { (e : List ℕ) (b : Sides) → sides_of heads.now e ≡ some b → result ≡ lacking_line (full_sides b) }
+    ensures { (e : List ℕ) (b : Sides) → sides_of heads.now e ≡ some b → LineOf (full_sides b) result }
 {
     let n = trainees_of(heads);
-    let first = missing_trainee(heads, n);
-    if first != 0 {
-        return first as u16;
+    if let Some(i) = (1..n + 1).find(|i| trainee_lacks(heads, *i)) {
+        return Some((1 + i) as u16);
     }
-    missing_depot(heads, n, depots_of(heads)) as u16
+    let j = (1..depots_of(heads) + 1).find(|j| depot_lacks(heads, n, *j))?;
+    Some((n + 1 + j) as u16)
 }
 
 // Whether each lent table has its full size: number 1 is given back where one has not.
 pub fn sizes_ok(heads: &[u16], entries: &[u16], orders: &[u16]) -> bool
     ensures { result ≡ sized heads.now entries.now orders.now }
 {
-    if heads.len() < 707 {
-        return false;
+    707 <= heads.len() && 8192 <= entries.len() && 3073 <= orders.len()
+}
+
+// The three tables that a caller lends, each of its full size.
+#[derive(Clone, Copy)]
+pub struct Lent<'a> {
+    pub heads: &'a [u16],
+    pub entries: &'a [u16],
+    pub orders: &'a [u16],
+    pub ghost sized: { sized heads.now entries.now orders.now ≡ true },
+}
+
+impl<'a> Lent<'a> {
+    // The tables, or number 1 where one of them is too short.
+    pub fn new(heads: &'a [u16], entries: &'a [u16], orders: &'a [u16]) -> Result<Self, Fault>
+        ensures { MatchResult result (λ t. (t.heads.now ≡ heads.now) × (t.entries.now ≡ entries.now) × (t.orders.now ≡ orders.now))
+            (λ f. (f ≡ Fault.ShortPart) × (sized heads.now entries.now orders.now ≡ false)) }
+    {
+        if !sizes_ok(heads, entries, orders) {
+            return Err(Fault::ShortPart);
+        }
+        Ok(Lent {
+            heads,
+            entries,
+            orders,
+        })
     }
-    if entries.len() < 8192 {
-        return false;
+}
+
+// Lent tables whose used cells a reader could have filled.
+#[derive(Clone, Copy)]
+pub struct Held<'a> {
+    pub heads: &'a [u16],
+    pub entries: &'a [u16],
+    pub orders: &'a [u16],
+    pub ghost sized: { sized heads.now entries.now orders.now ≡ true },
+    pub ghost held: { is_some (placement_of heads.now entries.now orders.now) ≡ true },
+}
+
+impl<'a> Held<'a> {
+    // The tables, or number 8 where no reader could have filled their used cells.
+    pub fn new(lent: Lent<'a>) -> Result<Self, Fault>
+        ensures { MatchResult result (λ t. (t.heads.now ≡ lent.entry.heads.now) × (t.entries.now ≡ lent.entry.entries.now) × (t.orders.now ≡ lent.entry.orders.now))
+            (λ f. (f ≡ Fault.NotRead) × (is_some (placement_of lent.entry.heads.now lent.entry.entries.now lent.entry.orders.now) ≡ false)) }
+    {
+        let Lent {
+            heads,
+            entries,
+            orders,
+        } = lent;
+        if !used_cells_ok(heads, entries, orders) {
+            return Err(Fault::NotRead);
+        }
+        Ok(Held {
+            heads,
+            entries,
+            orders,
+        })
     }
-    3073 <= orders.len()
+
+    // The number of trainees.
+    pub fn trainees(&self) -> usize
+        ensures { result ≡ get_or self.now.heads.now 1 0 }
+    {
+        trainees_of(self.heads)
+    }
+
+    // The number of depots.
+    pub fn depots(&self) -> usize
+        ensures { result ≡ get_or self.now.heads.now 2 0 }
+    {
+        depots_of(self.heads)
+    }
+
+    // The line that number 7 gives; none where all was received.
+    pub fn missing_line(&self) -> Option<u16>
+        ensures { (p : Placement) → placement_of self.now.heads.now self.now.entries.now self.now.orders.now ≡ some p → LineOf (full p) result }
+    {
+        first_missing_line(self.heads)
+    }
 }
 
 // What tells an empty list from none, for heads that hold a placement's, whatever the entries beside them.
@@ -470,13 +475,10 @@ fn receipt_in(heads: &[u16], i: usize) -> Receipt
     requires { HeadRoom heads.now }
     ensures { (e : List ℕ) (b : Sides) → sides_of heads.now e ≡ some b → result ≡ receipt_of (said_by b.trainees i) }
 {
-    if i < 1 {
+    if !in_range(i, trainees_of(heads)) {
         return Receipt::OutOfRange;
     }
-    if trainees_of(heads) < i {
-        return Receipt::OutOfRange;
-    }
-    if length_of(heads, trainee_at(i)) == NOT_RECEIVED {
+    if length_of(heads, trainee_at(i)).is_none() {
         return Receipt::NotReceived;
     }
     Receipt::Received

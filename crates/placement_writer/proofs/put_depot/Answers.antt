@@ -1,11 +1,10 @@
 -- The parts of the line one after the other, each with its room.
 use Prim.Native.Nat.{◌+◌}
-use mathlib.Core.Path.{ap}
 use mathlib.Core.List.{[], ◌∷◌, ◌++◌}
 use native.Mathlib.Omega.{arith}
-use lib.ListN.{length, get_or}
+use lib.ListN.{get_or}
 use Rattle.fields.specs.Writer.{write_number}
-use Rattle.fields.proofs.Puts.{put_then, put_as}
+use Rattle.fields.proofs.Puts.{put_then}
 use Rattle.placement_text.specs.Words.{word_D}
 use Rattle.placement_text.specs.Writer.{write_received, write_list, write_depot}
 use Rattle.placement_writer.specs.Held.{number_in, list_in, depot_in}
@@ -43,9 +42,7 @@ put_posts-c-requires c =
     let l = write_list (list_in a.heads.now a.entries.now a.cells) in
     let R₄ = room-front (word_D ++ n ++ p ++ l) (10 ∷ []) a.at c.requires.3 in
     let R₃ = room-front (word_D ++ n ++ p) l a.at R₄ in
-    let r = room_next p (put_then c.put_word-a.ensures c.put_number-b.ensures) R₃ in
-    let e = ap (λ k. length (write_received (number_in k))) c.posts_of.ensures in
-    (omega (arith, c.shared_slice_known-1.given (a.cells + 2)), omega arith)
+    (c.requires.1, room_next p (put_then c.put_word-a.ensures c.put_number-b.ensures) R₃)
 
 pub put_list-d-requires : goal.put_list-d-requires
 unfolding write_depot depot_in
@@ -55,18 +52,15 @@ put_list-d-requires c =
     let p = write_received (number_in (get_or a.heads.now (a.cells + 2) 0)) in
     let l = write_list (list_in a.heads.now a.entries.now a.cells) in
     let R₄ = room-front (word_D ++ n ++ p ++ l) (10 ∷ []) a.at c.requires.3 in
-    let P = put_as (ap (λ k. write_received (number_in k)) c.posts_of.ensures) c.put_posts-c.ensures in
-    (c.requires.2, room_next l (put_then (put_then c.put_word-a.ensures c.put_number-b.ensures) P) R₄)
+    (c.requires.2, room_next l (put_then (put_then c.put_word-a.ensures c.put_number-b.ensures) c.put_posts-c.ensures) R₄)
 
 pub put_byte-requires : goal.put_byte-requires
 unfolding write_depot depot_in
 put_byte-requires c =
-    let P = put_as (ap (λ k. write_received (number_in k)) c.posts_of.ensures) c.put_posts-c.ensures in
-    let r = room_next (10 ∷ []) (put_then (put_then (put_then c.put_word-a.ensures c.put_number-b.ensures) P) c.put_list-d.ensures) c.requires.3 in
+    let r = room_next (10 ∷ []) (put_then (put_then (put_then c.put_word-a.ensures c.put_number-b.ensures) c.put_posts-c.ensures) c.put_list-d.ensures) c.requires.3 in
     omega arith
 
 pub returns : goal.returns
 unfolding write_depot depot_in
 returns c =
-    let P = put_as (ap (λ k. write_received (number_in k)) c.posts_of.ensures) c.put_posts-c.ensures in
-    put_then (put_then (put_then (put_then c.put_word-a.ensures c.put_number-b.ensures) P) c.put_list-d.ensures) c.put_byte.ensures
+    put_then (put_then (put_then (put_then c.put_word-a.ensures c.put_number-b.ensures) c.put_posts-c.ensures) c.put_list-d.ensures) c.put_byte.ensures

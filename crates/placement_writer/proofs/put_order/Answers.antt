@@ -21,9 +21,7 @@ put_kind-a-requires c =
     let v = write_number (get_or o (a.cells + 1) 0) in
     let x = write_number (get_or o (a.cells + 2) 0) in
     let R₃ = room-front (u ++ v ++ x) (10 ∷ []) a.at c.requires.1 in
-    let R₁ = room-front u v a.at (room-front (u ++ v) x a.at R₃) in
-    let e = ap (λ k. length (letter (kind_in k))) c.order_kind.ensures in
-    omega arith
+    (omega arith, room-front u v a.at (room-front (u ++ v) x a.at R₃))
 
 pub overflow_cast-order_trainee : goal.overflow_cast-order_trainee
 overflow_cast-order_trainee c = omega (arith, c.shared_slice_known-1.given (c.args.cells + 1))
@@ -38,8 +36,7 @@ put_number-b-requires c =
     let x = write_number (get_or o (a.cells + 2) 0) in
     let R₃ = room-front (u ++ v ++ x) (10 ∷ []) a.at c.requires.1 in
     let R₂ = room-front (u ++ v) x a.at R₃ in
-    let P = put_as (ap (λ k. letter (kind_in k)) c.order_kind.ensures) c.put_kind-a.ensures in
-    let r = room_next v P R₂ in
+    let r = room_next v c.put_kind-a.ensures R₂ in
     let e = ap (λ k. length (write_number k)) c.order_trainee.ensures in
     omega arith
 
@@ -55,9 +52,8 @@ put_number-c-requires c =
     let v = write_number (get_or o (a.cells + 1) 0) in
     let x = write_number (get_or o (a.cells + 2) 0) in
     let R₃ = room-front (u ++ v ++ x) (10 ∷ []) a.at c.requires.1 in
-    let P = put_as (ap (λ k. letter (kind_in k)) c.order_kind.ensures) c.put_kind-a.ensures in
     let Q = put_as (ap write_number c.order_trainee.ensures) c.put_number-b.ensures in
-    let r = room_next x (put_then P Q) R₃ in
+    let r = room_next x (put_then c.put_kind-a.ensures Q) R₃ in
     let e = ap (λ k. length (write_number k)) c.order_depot.ensures in
     omega arith
 
@@ -65,16 +61,14 @@ pub put_byte-requires : goal.put_byte-requires
 unfolding write_order order_in
 put_byte-requires c =
     let a = c.args in
-    let P = put_as (ap (λ k. letter (kind_in k)) c.order_kind.ensures) c.put_kind-a.ensures in
     let Q = put_as (ap write_number c.order_trainee.ensures) c.put_number-b.ensures in
     let S = put_as (ap write_number c.order_depot.ensures) c.put_number-c.ensures in
-    let r = room_next (10 ∷ []) (put_then (put_then P Q) S) c.requires.1 in
+    let r = room_next (10 ∷ []) (put_then (put_then c.put_kind-a.ensures Q) S) c.requires.1 in
     omega arith
 
 pub returns : goal.returns
 unfolding write_order order_in
 returns c =
-    let P = put_as (ap (λ k. letter (kind_in k)) c.order_kind.ensures) c.put_kind-a.ensures in
     let Q = put_as (ap write_number c.order_trainee.ensures) c.put_number-b.ensures in
     let S = put_as (ap write_number c.order_depot.ensures) c.put_number-c.ensures in
-    put_then (put_then (put_then P Q) S) c.put_byte.ensures
+    put_then (put_then (put_then c.put_kind-a.ensures Q) S) c.put_byte.ensures

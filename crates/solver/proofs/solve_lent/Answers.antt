@@ -17,23 +17,23 @@ pub returns-then-not-used_cells_ok : goal.returns-then-not-used_cells_ok
 returns-then-not-used_cells_ok c = let a = c.args in
     solve-unread a.heads.now a.entries.now a.orders.now a.table.now a.room (sym c.has_room.ensures ∙ c.if-not-has_room.false) _ (sym c.used_cells_ok.ensures ∙ c.if-not-used_cells_ok.true)
 
-pub first_missing_line-line-requires : goal.first_missing_line-line-requires
-first_missing_line-line-requires c = let a = c.args in
+pub first_missing_line-requires : goal.first_missing_line-requires
+first_missing_line-requires c = let a = c.args in
     let g = read-tables a.heads.now a.entries.now a.orders.now a.table.now a.room (sym c.has_room.ensures ∙ c.if-not-has_room.false) (sym c.used_cells_ok.ensures ∙ c.if-not-used_cells_ok.false) in
     head-room _ _ _ g.placement g.held
 
-pub returns-then-line-ne0 : goal.returns-then-line-ne0
-returns-then-line-ne0 c = let a = c.args in
-    solve-lacking _ _ _ _ _ (read-tables a.heads.now a.entries.now a.orders.now a.table.now a.room (sym c.has_room.ensures ∙ c.if-not-has_room.false) (sym c.used_cells_ok.ensures ∙ c.if-not-used_cells_ok.false)) _ c.first_missing_line-line.ensures _ c.if-line-ne0.true
+pub returns-in-Some : goal.returns-in-Some
+returns-in-Some c = let a = c.args in
+    solve-lacking _ _ _ _ _ (read-tables a.heads.now a.entries.now a.orders.now a.table.now a.room (sym c.has_room.ensures ∙ c.if-not-has_room.false) (sym c.used_cells_ok.ensures ∙ c.if-not-used_cells_ok.false)) _ c.in-Some.ensures _
 
 pub invariant_of-market : goal.invariant_of-market
 invariant_of-market c = let a = c.args in
-    let f = ready _ _ _ _ _ (read-tables a.heads.now a.entries.now a.orders.now a.table.now a.room (sym c.has_room.ensures ∙ c.if-not-has_room.false) (sym c.used_cells_ok.ensures ∙ c.if-not-used_cells_ok.false)) _ c.first_missing_line-line.ensures c.if-line-ne0.false in
+    let f = ready _ _ _ _ _ (read-tables a.heads.now a.entries.now a.orders.now a.table.now a.room (sym c.has_room.ensures ∙ c.if-not-has_room.false) (sym c.used_cells_ok.ensures ∙ c.if-not-used_cells_ok.false)) c.in_default.ensures in
     record { full = f.0 }
 
 pub invariant_of-all : goal.invariant_of-all
 invariant_of-all c = let a = c.args in
-    let g = ready _ _ _ _ _ (read-tables a.heads.now a.entries.now a.orders.now a.table.now a.room (sym c.has_room.ensures ∙ c.if-not-has_room.false) (sym c.used_cells_ok.ensures ∙ c.if-not-used_cells_ok.false)) _ c.first_missing_line-line.ensures c.if-line-ne0.false in
+    let g = ready _ _ _ _ _ (read-tables a.heads.now a.entries.now a.orders.now a.table.now a.room (sym c.has_room.ensures ∙ c.if-not-has_room.false) (sym c.used_cells_ok.ensures ∙ c.if-not-used_cells_ok.false)) c.in_default.ensures in
     record { full = g.1; few = omega (arith, c.type_inv.orders 0) }
 
 pub solve_cells-ruling-requires : goal.solve_cells-ruling-requires
@@ -41,4 +41,4 @@ solve_cells-ruling-requires c = ((long-parts _ _ _ _ _ (sym c.has_room.ensures �
 
 pub returns : goal.returns
 returns c = let a = c.args in
-    solve-whole _ _ _ _ _ (read-tables a.heads.now a.entries.now a.orders.now a.table.now a.room (sym c.has_room.ensures ∙ c.if-not-has_room.false) (sym c.used_cells_ok.ensures ∙ c.if-not-used_cells_ok.false)) _ c.first_missing_line-line.ensures c.if-line-ne0.false _ _ _ c.solve_cells-ruling.ensures
+    solve-whole _ _ _ _ _ (read-tables a.heads.now a.entries.now a.orders.now a.table.now a.room (sym c.has_room.ensures ∙ c.if-not-has_room.false) (sym c.used_cells_ok.ensures ∙ c.if-not-used_cells_ok.false)) c.in_default.ensures _ _ _ c.solve_cells-ruling.ensures

@@ -15,11 +15,11 @@ read_ok-requires c = let l = long-parts _ _ _ _ (sym c.long_enough.ensures ∙ c
 pub returns-then-not-read_ok-clause-answer : goal.returns-then-not-read_ok-clause-answer
 returns-then-not-read_ok-clause-answer c = test-unread _ _ _ _ _ (sym c.long_enough.ensures ∙ c.if-not-long_enough.false) (sym c.read_ok.ensures ∙ c.if-not-read_ok.true)
 
-pub first_missing_line-line-requires : goal.first_missing_line-line-requires
-first_missing_line-line-requires c = let g = read-tables _ _ _ _ _ (sym c.long_enough.ensures ∙ c.if-not-long_enough.false) (sym c.read_ok.ensures ∙ c.if-not-read_ok.false) in head-room _ _ _ g.placement g.held
+pub first_missing_line-requires : goal.first_missing_line-requires
+first_missing_line-requires c = let g = read-tables _ _ _ _ _ (sym c.long_enough.ensures ∙ c.if-not-long_enough.false) (sym c.read_ok.ensures ∙ c.if-not-read_ok.false) in head-room _ _ _ g.placement g.held
 
-pub returns-then-line-ne0-clause-answer : goal.returns-then-line-ne0-clause-answer
-returns-then-line-ne0-clause-answer c = test-lacking _ _ _ _ _ (read-tables _ _ _ _ _ (sym c.long_enough.ensures ∙ c.if-not-long_enough.false) (sym c.read_ok.ensures ∙ c.if-not-read_ok.false)) _ c.first_missing_line-line.ensures c.if-line-ne0.true
+pub returns-in-Some-clause-answer : goal.returns-in-Some-clause-answer
+returns-in-Some-clause-answer c = test-lacking _ _ _ _ _ (read-tables _ _ _ _ _ (sym c.long_enough.ensures ∙ c.if-not-long_enough.false) (sym c.read_ok.ensures ∙ c.if-not-read_ok.false)) _ c.in-Some.ensures
 
 pub slice_bounds-trial-end : goal.slice_bounds-trial-end
 slice_bounds-trial-end c = let a = c.args in
@@ -31,16 +31,16 @@ pub invariant_of-trial : goal.invariant_of-trial
 invariant_of-trial c = let a = c.args in
     let long = sym c.long_enough.ensures ∙ c.if-not-long_enough.false in
     let g = read-tables a.heads.now a.entries.now a.orders.now a.n a.table.now long (sym c.read_ok.ensures ∙ c.if-not-read_ok.false) in
-    let known = test-tables _ _ _ _ _ g _ c.first_missing_line-line.ensures c.if-line-ne0.false (long-parts _ _ _ _ long).table c.from-end.result c.from-end.ensures in record { full = known.full }
+    let known = test-tables _ _ _ _ _ g c.in_default.ensures (long-parts _ _ _ _ long).table c.from-end.result c.from-end.ensures in record { full = known.full }
 
 pub invariant_of-trial-2 : goal.invariant_of-trial-2
 invariant_of-trial-2 c = let a = c.args in
     let long = sym c.long_enough.ensures ∙ c.if-not-long_enough.false in
     let g = read-tables a.heads.now a.entries.now a.orders.now a.n a.table.now long (sym c.read_ok.ensures ∙ c.if-not-read_ok.false) in
-    record { known = test-tables _ _ _ _ _ g _ c.first_missing_line-line.ensures c.if-line-ne0.false (long-parts _ _ _ _ long).table c.from-end.result c.from-end.ensures }
+    record { known = test-tables _ _ _ _ _ g c.in_default.ensures (long-parts _ _ _ _ long).table c.from-end.result c.from-end.ensures }
 
 pub returns : goal.returns
 returns c = let a = c.args in
     let long = sym c.long_enough.ensures ∙ c.if-not-long_enough.false in
     let g = read-tables a.heads.now a.entries.now a.orders.now a.n a.table.now long (sym c.read_ok.ensures ∙ c.if-not-read_ok.false) in
-    let p = promised _ _ _ _ _ _ (c.tested.ensures ∙ test-whole _ _ _ _ _ g _ c.first_missing_line-line.ensures c.if-line-ne0.false c.from-end.result c.from-end.ensures) in record { answer = p.0; truth = p.1 }
+    let p = promised _ _ _ _ _ _ (c.tested.ensures ∙ test-whole _ _ _ _ _ g c.in_default.ensures c.from-end.result c.from-end.ensures) in record { answer = p.0; truth = p.1 }

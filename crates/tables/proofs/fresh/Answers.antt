@@ -1,14 +1,18 @@
--- Each test that fails makes the conjunction false; past both of them the mark alone decides.
-use mathlib.Core.Path.{sym}
-use native.Mathlib.Omega.{arith}
-use Rattle.tables.proofs.Entries.{below, above, inside}
+-- Past the range the mark alone decides.
+use mathlib.Core.Path.{sym, ◌∙◌}
+use Rattle.std.proofs.Common.{arith}
+use Rattle.std.proofs.lemmas.Bool.Decides.{nat_tests}
+use Rattle.meaning.specs.Numbers.{◌&◌}
+use Rattle.tables.proofs.Tests.{within_in}
 use Rattle.tables.proofs.fresh.Goals as goal
 
-pub returns-then-x-lt1 : goal.returns-then-x-lt1
-returns-then-x-lt1 c = sym (below _ _ _ c.if-x-lt1.true)
+pub bounds-marks-x : goal.bounds-marks-x
+bounds-marks-x c = let b = within_in c.args.hi c.args.x (sym c.in_range.ensures ∙ c.if-in_range.true) in omega (arith, b.high)
 
-pub returns-then-hi-x : goal.returns-then-hi-x
-returns-then-hi-x c = sym (above _ _ _ c.if-hi-x.true)
+pub returns-then-in_range : goal.returns-then-in_range
+unfolding ◌&◌
+returns-then-in_range c = grind (arith, nat_tests)
 
-pub returns : goal.returns
-returns c = let a = c.args in sym (inside a.hi a.x _ (omega arith) (omega arith))
+pub returns-else-in_range : goal.returns-else-in_range
+unfolding ◌&◌
+returns-else-in_range c = grind (arith, nat_tests)

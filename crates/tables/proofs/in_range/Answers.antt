@@ -1,9 +1,14 @@
 -- The decoder's own two tests.
-use Rattle.tables.proofs.Walk.{within_low, within-up}
+use Rattle.std.proofs.Common.{arith}
+use Rattle.std.proofs.lemmas.Bool.Decides.{nat_tests}
+use Rattle.meaning.specs.Numbers.{◌&◌}
+use Rattle.tables.specs.Decode.{within}
 use Rattle.tables.proofs.in_range.Goals as goal
 
-pub returns-then-x-lt1 : goal.returns-then-x-lt1
-returns-then-x-lt1 c = within_low _ _ c.if-x-lt1.true
+pub returns-then-x-ge1 : goal.returns-then-x-ge1
+unfolding within ◌&◌
+returns-then-x-ge1 c = grind (arith, nat_tests)
 
-pub returns : goal.returns
-returns c = within-up _ _ c.if-x-lt1.false
+pub returns-else-x-ge1 : goal.returns-else-x-ge1
+unfolding within ◌&◌
+returns-else-x-ge1 c = grind (arith, nat_tests)

@@ -11,5 +11,5 @@ unfolding part
 returns c =
     let a = c.args in
     let h = a.heads.now in
-    let z : c.start_of-start.result + c.length_of.result - c.start_of-start.result ≡ get_or h (a.at + 1) 0 = omega arith in
+    let z : c.start_of-start.result + c.cell.result - c.start_of-start.result ≡ get_or h (a.at + 1) 0 = omega arith in
     ap₂ (λ v s. take v (drop s a.entries.now)) z c.start_of-start.ensures

@@ -1,46 +1,29 @@
--- The two walks' ends are the sums that the decoder tests.
-use Prim.Native.Nat.{◌+◌, ◌*◌}
-use native.Mathlib.Omega.{arith}
-use lib.ListN.{length, get_or, drop}
-use Rattle.meaning.specs.Lists.{weigh}
-use Rattle.meaning.specs.Placement.{depot_size}
-use Rattle.tables.specs.Decode.{depots_from}
-use Rattle.tables.proofs.Walk.{ended_at, ended-wrong, end_after, lists-wrong, lists-many, lists-depots, lists-end}
+-- The two walks' ends are the sums that the decoder tests, and the posts decide alone.
+use Rattle.std.proofs.Common.{arith}
+use Rattle.std.proofs.lemmas.Bool.Decides.{nat_tests}
+use lib.ListN.{get_or}
+use Rattle.meaning.specs.Numbers.{◌&◌}
+use Rattle.tables.proofs.Walk.{lists-wrong, lists-none, lists-end}
 use Rattle.tables.proofs.lists_ok.Goals as goal
 
-pub returns-then-s-gt4096 : goal.returns-then-s-gt4096
-returns-then-s-gt4096 c =
-    let a = c.args in
-    let E = ended_at (length a.entries.now) _ c.in-At.is c.trainees_end-t.ensures in
-    lists-many (get_or a.heads.now 0 0) a.n a.m a.heads.now a.entries.now _ E.0 c.if-s-gt4096.true
+pub returns-in_default : goal.returns-in_default
+returns-in_default c = let a = c.args in lists-wrong (get_or a.heads.now 0 0) a.n a.m a.heads.now a.entries.now c.in_default.ensures
 
-pub depots_end-d-requires : goal.depots_end-d-requires
-depots_end-d-requires c =
+pub returns-in_default-end : goal.returns-in_default-end
+returns-in_default-end c =
     let a = c.args in
-    let E = ended_at (length a.entries.now) _ c.in-At.is c.trainees_end-t.ensures in
-    (omega arith, E.1, omega arith, omega arith)
+    lists-none (get_or a.heads.now 0 0) a.n a.m a.heads.now a.entries.now c.in-Some.s c.in-Some.ensures.0 (omega arith) c.in_default-end.ensures
 
-pub overflow_sub-result : goal.overflow_sub-result
-overflow_sub-result c =
+pub returns-then-f-s-le4096 : goal.returns-then-f-s-le4096
+unfolding ◌&◌
+returns-then-f-s-le4096 c =
     let a = c.args in
-    let s = c.in-At.s in
-    let D = ended_at (length a.entries.now) _ c.in-At-d.is c.depots_end-d.ensures in
-    end_after (weigh depot_size) s (depots_from a.n a.m s (drop (3 + 2 * a.n) a.heads.now) (drop s a.entries.now)) D.0
+    let e = lists-end (get_or a.heads.now 0 0) a.n a.m a.heads.now a.entries.now c.in-Some.s c.in-Some.ensures.0 (omega arith) c.in-Some-end.f c.in-Some-end.ensures.0 in
+    rw e (grind (arith, nat_tests))
 
-pub returns-in-Wrong : goal.returns-in-Wrong
-returns-in-Wrong c =
+pub returns-else-f-s-le4096 : goal.returns-else-f-s-le4096
+unfolding ◌&◌
+returns-else-f-s-le4096 c =
     let a = c.args in
-    lists-wrong (get_or a.heads.now 0 0) a.n a.m a.heads.now a.entries.now (ended-wrong (length a.entries.now) _ c.in-Wrong.is c.trainees_end-t.ensures)
-
-pub returns-in-Wrong-d : goal.returns-in-Wrong-d
-returns-in-Wrong-d c =
-    let a = c.args in
-    let E = ended_at (length a.entries.now) _ c.in-At.is c.trainees_end-t.ensures in
-    lists-depots (get_or a.heads.now 0 0) a.n a.m a.heads.now a.entries.now _ E.0 (omega arith) (ended-wrong (length a.entries.now) _ c.in-Wrong-d.is c.depots_end-d.ensures)
-
-pub returns-in-At-d : goal.returns-in-At-d
-returns-in-At-d c =
-    let a = c.args in
-    let E = ended_at (length a.entries.now) _ c.in-At.is c.trainees_end-t.ensures in
-    let D = ended_at (length a.entries.now) _ c.in-At-d.is c.depots_end-d.ensures in
-    lists-end (get_or a.heads.now 0 0) a.n a.m a.heads.now a.entries.now _ E.0 (omega arith) _ D.0
+    let e = lists-end (get_or a.heads.now 0 0) a.n a.m a.heads.now a.entries.now c.in-Some.s c.in-Some.ensures.0 (omega arith) c.in-Some-end.f c.in-Some-end.ensures.0 in
+    rw e (grind (arith, nat_tests))

@@ -1,20 +1,21 @@
 -- The kind decides first, then the two ranges.
-use mathlib.Core.Path.{sym, ap, ◌∙◌}
-use native.Mathlib.Omega.{arith}
-use Rattle.tables.specs.Decode.{within}
-use Rattle.tables.proofs.Walk.{order-unkind, order-first, order-second}
+use Rattle.std.proofs.Common.{◌∙◌, arith}
+use Rattle.std.proofs.lemmas.Bool.Decides.{nat_tests}
+use Rattle.meaning.specs.Numbers.{◌&◌}
+use Rattle.tables.proofs.Orders.{kind-tests}
+use Rattle.tables.proofs.Walk.{order-tests}
 use Rattle.tables.proofs.order_ok.Goals as goal
 
-pub returns-then-order_kind-gt1 : goal.returns-then-order_kind-gt1
-returns-then-order_kind-gt1 c = let a = c.args in order-unkind a.n a.m a.at a.orders.now (omega arith) (omega arith)
-
-pub returns-then-not-in_range : goal.returns-then-not-in_range
-returns-then-not-in_range c =
+pub returns-then-in_range : goal.returns-then-in_range
+unfolding ◌&◌
+returns-then-in_range c =
     let a = c.args in
-    order-first a.n a.m a.at a.orders.now (omega arith) (omega arith) (sym (c.in_range.ensures ∙ ap (within a.n) c.order_trainee.ensures) ∙ c.if-not-in_range.true)
+    let k = c.is_some.ensures ∙ kind-tests _ _ c.order_kind.ensures in
+    rw (order-tests a.n a.m a.at a.orders.now (omega arith)) (grind (arith, nat_tests, k))
 
-pub returns : goal.returns
-returns c =
+pub returns-else-in_range : goal.returns-else-in_range
+unfolding ◌&◌
+returns-else-in_range c =
     let a = c.args in
-    c.in_range-2.ensures ∙ ap (within a.m) c.order_depot.ensures
-    ∙ order-second a.n a.m a.at a.orders.now (omega arith) (omega arith) (sym (c.in_range.ensures ∙ ap (within a.n) c.order_trainee.ensures) ∙ c.if-not-in_range.false)
+    let k = c.is_some.ensures ∙ kind-tests _ _ c.order_kind.ensures in
+    rw (order-tests a.n a.m a.at a.orders.now (omega arith)) (grind (arith, nat_tests, k))

@@ -1,9 +1,7 @@
 -- The decoder's own two tests.
-use Rattle.tables.proofs.Walk.{posts-not-received, posts-given}
+use Rattle.std.proofs.Common.{rules, tests}
+use Rattle.tables.proofs.Walk.{posts-tests}
 use Rattle.tables.proofs.posts_ok.Goals as goal
 
-pub returns-then-v-eq-NOT_RECEIVED : goal.returns-then-v-eq-NOT_RECEIVED
-returns-then-v-eq-NOT_RECEIVED c = posts-not-received _ c.if-v-eq-NOT_RECEIVED.true
-
 pub returns : goal.returns
-returns c = posts-given _ c.if-v-eq-NOT_RECEIVED.false
+returns c = posts-tests _ _ _ c.posts_of.ensures c.is_none_or.ensures (λ w q. search (rules, tests))

@@ -5,13 +5,13 @@ use Rattle.tables.specs.Walk.{is_some}
 use Rattle.tables.proofs.Walk.{tables-sides, tables-orders}
 use Rattle.tables.proofs.used_cells_ok.Goals as goal
 
-pub returns-then-not-sides_ok : goal.returns-then-not-sides_ok
-returns-then-not-sides_ok c =
-    let a = c.args in
-    tables-sides a.heads.now a.entries.now a.orders.now (sym c.sides_ok.ensures ∙ c.if-not-sides_ok.true)
-
-pub returns : goal.returns
-returns c =
+pub returns-then-sides_ok : goal.returns-then-sides_ok
+returns-then-sides_ok c =
     let a = c.args in
     c.orders_ok.ensures ∙ ap₂ (λ n m. is_some (few_orders_of n m a.orders.now)) c.trainees_of.ensures c.depots_of.ensures
-    ∙ tables-orders a.heads.now a.entries.now a.orders.now (sym c.sides_ok.ensures ∙ c.if-not-sides_ok.false)
+    ∙ tables-orders a.heads.now a.entries.now a.orders.now (sym c.sides_ok.ensures ∙ c.if-sides_ok.true)
+
+pub returns-else-sides_ok : goal.returns-else-sides_ok
+returns-else-sides_ok c =
+    let a = c.args in
+    c.if-sides_ok.false ∙ tables-sides a.heads.now a.entries.now a.orders.now (sym c.sides_ok.ensures ∙ c.if-sides_ok.false)
