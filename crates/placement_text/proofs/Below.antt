@@ -14,9 +14,9 @@ use Rattle.meaning.specs.Placement.{Kind, Order}
 use Rattle.fields.specs.Bytes.{word_of, rest_of, same, word_end}
 use Rattle.fields.specs.declared.Wrong.{Wrong}
 use Rattle.fields.specs.Leaves.{wrong_on, StepRead}
-use Rattle.fields.proofs.Steps.{refusal-not-got, unless-back, unless-there}
+use Rattle.fields.proofs.Steps.{refusal-not-got, unless-there}
 use Rattle.meaning.proofs.Booleans.{true-or-false}
-use Rattle.fields.specs.Reader.{got, refusal, unless, first, keyword, line_end, at_end}
+use Rattle.fields.specs.Reader.{got, refusal, unless, first, keyword}
 use Rattle.fields.proofs.Puts.{sets-append}
 use Rattle.tables.proofs.Series.{series-cells}
 use Rattle.tables.proofs.One.{order-wide}
@@ -33,11 +33,6 @@ use Rattle.fields.specs.declared.Misread.{Misread}
 use Rattle.placement_text.proofs.Turns.{series-end, three-cells}
 
 -- ---- the word
-
--- what was read of a keyword
-pub keyword-there : (w q r : List ℕ) → keyword w q ≡ got tt r → (same (word_of q) w ≡ true) × (rest_of q ≡ r)
-unfolding keyword first
-keyword-there w q r e = unless-back 3 1 (same (word_of q) w) (rest_of q) e
 
 pub keyword_gone : (w q : List ℕ) {x f : ℕ} → keyword w q ≡ refusal x 0 f → same (word_of q) w ≡ false
 unfolding keyword first
@@ -70,14 +65,6 @@ module _ {q p o : List ℕ} (F : Other word_F q p) (X : Other word_X p o) where
   not-barred : same (word_of q) word_X ≡ false
   not-barred = rw F.kept at X.differs
 
--- ---- the fields of a pair, and the end
-
-module _ (l : ℕ) (os : List Order) (q : List ℕ) where
-  pub finish-more : (r : List ℕ) → line_end 2 q ≡ got tt r → (length r ≡ 0 → ⊥) → finish l os q ≡ refusal 3 (l + 1) 1
-  unfolding finish end_fields at_end
-  finish-more [] e h = absurd (h refl)
-  finish-more (b ∷ r) e h = rw e
-
 -- ---- one line
 
 module _ (n m l : ℕ) (q : List ℕ) where
@@ -90,10 +77,6 @@ module _ (n m l : ℕ) (q : List ℕ) where
   unfolding orders
   orders-end zero os O = rw (O.opens, orders) (ap (finish l os) O.rest)
   orders-end (suc k) os O = rw (O.opens, orders) (ap (finish l os) O.rest)
-
-  pub orders-limit : {b : Kind} {r : List ℕ} (c : ℕ) (os : List Order) → Opened q (reader.order b) r → c ≡ 1024 → orders (1024 - c) n m l os q ≡ refusal 6 l 1
-  unfolding orders
-  orders-limit c os O e = let k : 1024 - c ≡ zero = omega arith in rw k (rw (O.opens, orders))
 
   module _ (c : ℕ) (few : c < 1024) {b : Kind} {r : List ℕ} (O : Opened q (reader.order b) r) where
     pub orders-refused : {x f : ℕ} (os : List Order) → order_fields n m b r ≡ refusal x 0 f → orders (1024 - c) n m l os q ≡ refusal x l f

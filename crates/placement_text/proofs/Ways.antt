@@ -190,15 +190,7 @@ entries-count : (c k hi : ℕ) (q : List ℕ) {es r : List ℕ} → entries c k 
 entries-count c k hi q e = let b = entries-back c k hi [] q e in ap length b.all ∙ b.count
 
 module _ (k hi total c : ℕ) (q : List ℕ) where
-  pub listed-much : MOST < total + c → listed k hi total (some c) q ≡ refusal 6 0 k
-  unfolding listed unless
-  listed-much h = rw (lt-leb (total + c) MOST h)
-
   module _ (h : total + c ≤ MOST) where
-    pub listed-refused : {x f : ℕ} → entries c (k + 1) hi [] q ≡ refusal x 0 f → listed k hi total (some c) q ≡ refusal x 0 f
-    unfolding listed unless
-    listed-refused e = rw (le-leb (total + c) MOST h) (rw e)
-
     pub listed-no-end : {es r : List ℕ} {x f : ℕ} → entries c (k + 1) hi [] q ≡ got es r → line_end (k + 1 + c) r ≡ refusal x 0 f
         → listed k hi total (some c) q ≡ refusal x 0 f
     unfolding listed unless

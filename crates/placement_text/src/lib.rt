@@ -197,6 +197,7 @@ fn depot_line(
 }
 
 // The lines of the trainees, and how many entries they have: their heads go to the cells of h behind the first three, and the entries to the front of t.
+// Trainees and depots have a loop each: one for both needs a trait for what a line gives, its cells and its count, with their laws, and is no plainer.
 pub fn trainee_lines(
     text: &mut Cursor,
     sizes: Sizes,
