@@ -133,7 +133,7 @@ fn replay(standing: &Standing, marks: &mut [u64], cells: &[u16], count: usize) -
     Ok(())
 }
 
-// The left table, in the front of an array.
+// The left table, in the front of an array, since there is no heap.
 fn left_table(rows: &Rows) -> [u16; 256]
     ensures { take (n_of rows.now.market.heads.now) result ≡ left_cells rows.now.market.heads.now rows.now.market.entries.now rows.now.marks.now (n_of rows.now.market.heads.now) }
 {
