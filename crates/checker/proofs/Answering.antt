@@ -7,7 +7,7 @@ use mathlib.Core.Bool.{Bool}
 use mathlib.Core.List.{List, []}
 use native.Mathlib.Omega.{arith}
 use lib.ListN.{get_or-replicate, length, get_or, replicate}
-use Rattle.checker.specs.Turns.{answer_from, Going, ReplaySays}
+use Rattle.checker.specs.Turns.{Going}
 use Rattle.checker.specs.Ends.{ends_in, NamesTrainee}
 use Rattle.rulings.specs.Held.{outcome_in}
 use Rattle.checker.specs.Check.{orders_of_table, check_in, CheckSays}
@@ -26,17 +26,11 @@ use Rattle.reasons.specs.Rows.{standing_of, OrderRows}
 use Rattle.reasons.specs.Orders.{order_in, orders_in, FullOrders, Noted}
 use Rattle.reasons.proofs.Noting.{noted-none, standing-noted}
 use Rattle.strikes.specs.Cells.{strikes_in}
-use Rattle.std.specs.Prelude.{Err, Result, Ok}
+use Rattle.std.specs.Prelude.{Result, Ok}
 use Rattle.meaning.specs.declared.Ruling.{Ruling}
 use Rattle.meaning.specs.declared.Rejection.{Rejection}
-use Rattle.meaning.specs.declared.Rejection.TheVariants.{NotAllowed}
 
 module _ (h e holds bars : List ℕ) (r : Ruling) (table cells : List ℕ) (count : ℕ) (ec : count ≡ r.strikes) (rows : List ℕ) where
-  -- a strike that isn't allowed is the answer
-  pub check-stops : (x : Rejection) → ReplaySays h e holds bars cells count rows (Err x) → CheckSays h e holds bars r table cells (Err x)
-  check-stops x says os stands =
-      sym (ap (λ (c : ℕ). answer_from h e holds bars os (outcome_in (n_of h) r.ending table) [] (strikes_in cells c) 1) (sym ec) ∙ says os (outcome_in (n_of h) r.ending table))
-
   module _ (all-going : Going h e holds bars cells count count rows) where
     -- after the last strike the ending is
     pub check-ends : FullTables h e → OrderRows h holds bars → NamesTrainee (n_of h) r.ending → (b : Bool) → b ≡ ends_in h e holds bars rows r.ending table

@@ -47,9 +47,6 @@ module _ (f : ℕ → Bool) where
   abbrev pub Passed : ℕ → Type 0
   Passed k = (i : ℕ) → In k i → f i ≡ true
 
-  pub passed_none : Passed 0
-  passed_none i r = absurd (omega (arith, r.low, r.high))
-
   pub passed-more : (k : ℕ) → Passed k → f (k + 1) ≡ true → Passed (k + 1)
   passed-more k p t i r = ⊎_elim
       (λ (l : i ≤ k). p i (record { low = r.low; high = l }))

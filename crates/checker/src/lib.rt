@@ -138,7 +138,7 @@ fn replay(
     Ok(())
 }
 
-// The left table, in the front of an array.
+// The left table, in the front of an array, since there is no heap.
 fn left_table(rows: &Rows) -> [u16; 256]
     ensures { take (n_of rows.now.market.heads.now) result ≡ left_cells rows.now.market.heads.now rows.now.market.entries.now rows.now.marks.now (n_of rows.now.market.heads.now) }
 {

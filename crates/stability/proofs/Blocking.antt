@@ -191,9 +191,6 @@ module _ (h e t counts worsts : List ℕ) (s : SearchTables h e t counts worsts)
       place-same = rw (ea, ← ew) (get_or-take (places_above w x) w p 0 (omega (arith, ap length ea, length-take-le (places_above w x) w (above_most w x))))
 
       module _ (j : ℕ) (ej : j ≡ get_or a p 0) where
-        pub depot-inside : In (m_of h) j
-        depot-inside = rw (ej, place-same) (s.paired.tables.full.trainee_names i p place_inside)
-
         module _ (b : Bool) (eb : b ≡ takes_at (place (ranking_of h e j) i) (posts_of h j) (get_or counts j 0) (get_or worsts j 0)) where
           blocks-here : blocks? (market_of h e) (table_of t) i (get_or (wishes_of h e i) p 0) ≡ b
           unfolding ◌&◌

@@ -97,7 +97,7 @@ impl<'a> Trial<'a> {
     }
 }
 
-// A table of mutual pairs, with how many trainees each depot has and the worst rank among them.
+// A table of mutual pairs, with how many trainees each depot has and the worst rank among them. These stay two arrays: first_over, the solver and the checker need the counts alone, before there are ranks.
 #[derive(Clone, Copy)]
 struct Search<'a> {
     market: Market<'a>,
