@@ -4,13 +4,9 @@ use Prim.Native.Nat.{ℕ}
 use mathlib.Core.Path.{◌≡◌, refl, sym, ap, ◌∙◌}
 use mathlib.Core.Bool.{Bool, true}
 use mathlib.Core.List.{List}
-use Rattle.tables.specs.Answers.{sized}
+use Rattle.tables.specs.Answers.{sized, Same}
 use Rattle.tables.specs.Decode.{placement_of}
 use Rattle.tables.specs.Walk.{is_some}
-
--- the tables of a value are these
-abbrev pub Same : List ℕ → List ℕ → List ℕ → List ℕ → List ℕ → List ℕ → Type 0
-Same h' e' o' h e o = (h' ≡ h) × (e' ≡ e) × (o' ≡ o)
 
 module _ {h' e' o' h e o : List ℕ} (s : Same h' e' o' h e o) where
   pub same-of : {A : Type 0} (f : List ℕ → List ℕ → List ℕ → A) → f h' e' o' ≡ f h e o
