@@ -121,6 +121,15 @@ pub struct Refusal {
     pub line: u16,
 }
 
+impl From<Fault> for Refusal {
+    ghost from_gives = { λ f r. r ≡ record { fault = f; line = 0 } };
+
+    // A refusal of what is wrong as a whole, with no line.
+    fn from(fault: Fault) -> Refusal {
+        Refusal { fault, line: 0 }
+    }
+}
+
 // Whether a trainee's list was received.
 #[derive(Clone, Copy)]
 pub enum Receipt {

@@ -18,7 +18,7 @@ ghost use Rattle.placement_writer.specs.Writing.{writes, writing_of};
 
 use fields::pen::{Lines, Pen};
 use meaning::{Fault, Refusal};
-use tables::Kind;
+use tables::{Held, Kind, Lent};
 
 // A number, or `?` where none was received.
 fn put_received(v: Option<usize>, pen: &mut Pen)
@@ -162,17 +162,10 @@ pub fn write_placement(
 ) -> Result<usize, Refusal>
     ensures { writes result out.new ≡ writing_of heads.now entries.now orders.now out.old }
 {
-    if !tables::sizes_ok(heads, entries, orders) || out.len() < 65536 {
-        return Err(Refusal {
-            fault: Fault::ShortPart,
-            line: 0,
-        });
+    let lent = Lent::new(heads, entries, orders)?;
+    if out.len() < 65536 {
+        return Err(Refusal::from(Fault::ShortPart));
     }
-    if !tables::used_cells_ok(heads, entries, orders) {
-        return Err(Refusal {
-            fault: Fault::NotRead,
-            line: 0,
-        });
-    }
-    Ok(put_text(heads, entries, orders, out))
+    let held = Held::new(lent)?;
+    Ok(put_text(held.heads, held.entries, held.orders, out))
 }

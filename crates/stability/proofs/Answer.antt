@@ -1,18 +1,15 @@
 -- What the stability test's answer says: past the refusals it is the meaning's, so it says stable exactly of stable tables.
 -- Assumes nothing.
 use Prim.Native.Nat.{ℕ}
-use mathlib.Core.Path.{◌≡◌, refl, sym, ◌∙◌, subst}
+use mathlib.Core.Path.{◌≡◌, refl, sym, subst}
 use mathlib.Core.Logic.{◌⊎◌, inl, inr}
 use mathlib.Core.Bool.{true, false}
 use mathlib.Core.List.{List}
 use lib.ListN.{take}
 use Rattle.stability.specs.Test.{long_enough, read_with, test_if_full, test_of}
-use Rattle.stability.specs.Keeps.{TestKeeps, KeepsUnlessRefused}
+use Rattle.stability.specs.Keeps.{KeepsUnlessRefused}
 use Rattle.stability.proofs.Guards.{ReadTables, test_short, test-unread, read-tables}
 use Rattle.meaning.specs.Full.{Full, Received, whole, lacking, full}
-use Rattle.meaning.specs.Market.{market}
-use Rattle.meaning.specs.Endings.{table_of}
-use Rattle.meaning.specs.Truth.{TestSays}
 use Rattle.meaning.proofs.Booleans.{true-or-false}
 use Rattle.meaning.proofs.Full.{legal-full}
 use Rattle.meaning.proofs.Stability.{test-answer, says-then-stable, stable-then-says}
@@ -20,7 +17,7 @@ use Rattle.tables.specs.Decode.{placement_of}
 use Rattle.tables.proofs.Round.{tables-back}
 use Rattle.meaning.specs.declared.Tested.{Tested}
 use Rattle.meaning.specs.declared.Refusal.{Refusal}
-use Rattle.std.specs.Prelude.{Result, Ok, Err}
+use Rattle.std.specs.Prelude.{Result}
 
 -- an answer that is no refusal keeps what is promised
 pub test-keeps : (h e o : List ℕ) (n : ℕ) (t : List ℕ) → KeepsUnlessRefused h e o n t (test_of h e o n t)

@@ -20,13 +20,14 @@ use Rattle.meaning.specs.Answers.{SHORT_PART, NOT_RECEIVED, NOT_READ, refusal}
 use Rattle.meaning.specs.Stability.{test_by, test}
 use Rattle.meaning.proofs.Booleans.{and_left, and_right}
 use Rattle.tables.specs.Cells.{HeadRoom}
-use Rattle.tables.specs.Decode.{Sides, sides_of, placement_of}
-use Rattle.tables.specs.Answers.{sized, full_sides, LineOf}
+use Rattle.tables.specs.Decode.{placement_of}
+use Rattle.tables.specs.Answers.{sized, LineOf, Same}
 use Rattle.tables.specs.Walk.{is_some}
 use Rattle.tables.proofs.Round.{sides-count, parts}
 use Rattle.tables.proofs.Seen.{sides-seen}
 use Rattle.std.specs.Prelude.{Some, None}
-use Rattle.tables.proofs.Lines.{IsWhole, of-placement, lacking-at, whole-at-zero}
+use Rattle.tables.proofs.Lines.{IsWhole, lacking-at, whole-at-zero}
+use Rattle.tables.proofs.Same.{same-of}
 use Rattle.tables.proofs.Receipts.{Sizes, sizes}
 use Rattle.tables.proofs.Views.{FullSeen, tables-seen}
 use Rattle.ranks.specs.View.{wishes_of, market_of}
@@ -141,6 +142,10 @@ module _ (h e o : List ℕ) (n : ℕ) (t : List ℕ) where
           by = rw (long, test_of) (rw x (rw (y, test_if_read)));
         }
 
+-- the same from what the types of lent tables say
+pub held-tables : {h' e' o' h e o : List ℕ} {n : ℕ} {t : List ℕ} → Same h' e' o' h e o × (long_enough h e o t ≡ true) → read_with (placement_of h' e' o') n t ≡ true → ReadTables h e o n t
+held-tables {n = n} {t = t} l k = read-tables _ _ _ n t l.1 (sym (ap (λ q. read_with q n t) (same-of l.0 placement_of)) ∙ k)
+
 -- ---- number 7
 
 pub head-room : (h e o : List ℕ) (p : Placement) → placement_of h e o ≡ some p → HeadRoom h
@@ -150,16 +155,15 @@ pub few-numbered : (h e o : List ℕ) (n : ℕ) (t : List ℕ) → ReadTables h 
 few-numbered h e o n t g = omega (arith, g.trainees, held-trainees h e o g.placement g.held, (head-room h e o g.placement g.held).few_trainees)
 
 module _ (h e o : List ℕ) (n : ℕ) (t : List ℕ) (g : ReadTables h e o n t) where
-  pub test-lacking : (line : ℕ) → ((e' : List ℕ) (b : Sides) → sides_of h e' ≡ some b → LineOf (full_sides b) (Some line))
-      → Err (refusal NOT_RECEIVED line) ≡ test_of h e o n t
+  pub test-lacking : (line : ℕ) → LineOf (full g.placement) (Some line) → Err (refusal NOT_RECEIVED line) ≡ test_of h e o n t
   unfolding test_if_full
-  test-lacking line gives = sym (g.by ∙ rw (lacking-at (full g.placement) line (of-placement h e o g.placement g.held (Some line) gives)))
+  test-lacking line gives = sym (g.by ∙ rw (lacking-at (full g.placement) line gives))
 
   -- ---- the worker's tables
 
-  module _ (gives : (e' : List ℕ) (b : Sides) → sides_of h e' ≡ some b → LineOf (full_sides b) None) where
+  module _ (gives : LineOf (full g.placement) None) where
     its_full : IsWhole (full g.placement)
-    its_full = whole-at-zero g.placement (of-placement h e o g.placement g.held None gives)
+    its_full = whole-at-zero g.placement gives
 
     seen : FullSeen h e its_full.value
     seen = (tables-seen h e o g.placement its_full.value g.held its_full.here).sides

@@ -1,13 +1,14 @@
 // The stability test of a table.
 #![tactic(auto)]
 
-ghost use Rattle.std.specs.Prelude.{◌≡◌, not, ℕ, ◌+◌, ◌-◌, ◌≤◌, ◌<◌, length, get_or, take, ltb};
+ghost use Rattle.std.specs.Prelude.{◌≡◌, not, true, false, ℕ, ◌+◌, ◌-◌, ◌≤◌, ◌<◌, length, get_or, take, ltb, MatchResult};
 ghost use Rattle.meaning.specs.Numbers.{In, ◌&◌};
 ghost use Rattle.meaning.specs.Lists.{place};
 ghost use Rattle.meaning.specs.Market.{mutual?};
 ghost use Rattle.meaning.specs.Endings.{table_of};
 ghost use Rattle.meaning.specs.Stability.{first_stranger, first_over, first_on, blocking_from, over_or, test_by};
 ghost use Rattle.tables.specs.Decode.{placement_of};
+ghost use Rattle.tables.specs.Answers.{Same};
 ghost use Rattle.ranks.specs.View.{n_of, m_of, wishes_of, ranking_of, posts_of, market_of, FullTables};
 ghost use Rattle.stability.specs.Test.{long_enough, read_depots, read_with, test_of};
 ghost use Rattle.stability.specs.Keeps.{KeepsUnlessRefused};
@@ -15,6 +16,7 @@ ghost use Rattle.stability.specs.Search.{found_of, rank_in, Counts, Worsts, plac
 
 use meaning::{Fault, Refusal, Tested};
 use ranks::Market;
+use tables::{Held, Lent};
 
 // Full tables, and a table with a cell for each of their trainees.
 #[derive(Clone, Copy)]
@@ -192,11 +194,21 @@ fn above_own(wishes: &[u16], x: usize) -> &[u16]
     }
 }
 
-// Whether each lent part has the full size of its table.
-fn long_enough(heads: &[u16], entries: &[u16], orders: &[u16], table: &[u16]) -> bool
-    ensures { result ≡ long_enough heads.now entries.now orders.now table.now }
+// The lent tables, or number 1 where a lent part is shorter than the full size of its table.
+fn long_enough<'a>(
+    heads: &'a [u16],
+    entries: &'a [u16],
+    orders: &'a [u16],
+    table: &[u16],
+) -> Result<Lent<'a>, Fault>
+    ensures { MatchResult result (λ t. Same t.heads.now t.entries.now t.orders.now heads.now entries.now orders.now × (long_enough heads.now entries.now orders.now table.now ≡ true))
+        (λ f. (f ≡ Fault.ShortPart) × (long_enough heads.now entries.now orders.now table.now ≡ false)) }
 {
-    tables::sizes_ok(heads, entries, orders) && 256 <= table.len()
+    let lent = Lent::new(heads, entries, orders)?;
+    if table.len() < 256 {
+        return Err(Fault::ShortPart);
+    }
+    Ok(lent)
 }
 
 // Whether each cell is 0 or a depot that can have been read.
@@ -206,15 +218,20 @@ fn depots_ok(cells: &[u16]) -> bool
     cells.iter().all(|j| *j <= 64)
 }
 
-// Whether a reader could have filled the used cells of all tables, the table's being those of n trainees.
-fn read_ok(heads: &[u16], entries: &[u16], orders: &[u16], n: u16, table: &[u16]) -> bool
-    requires { (707 ≤ length heads.now) × (3073 ≤ length orders.now) × (256 ≤ length table.now) }
-    ensures { result ≡ read_with (placement_of heads.now entries.now orders.now) n table.now }
+// The tables, or number 8 where no reader could have filled the used cells of all, the table's being those of n trainees.
+fn read_ok<'a>(lent: Lent<'a>, n: u16, table: &[u16]) -> Result<Held<'a>, Fault>
+    requires { 256 ≤ length table.now }
+    ensures { MatchResult result (λ t. Same t.heads.now t.entries.now t.orders.now lent.entry.heads.now lent.entry.entries.now lent.entry.orders.now
+        × (read_with (placement_of lent.entry.heads.now lent.entry.entries.now lent.entry.orders.now) n table.now ≡ true))
+        (λ f. (f ≡ Fault.NotRead) × (read_with (placement_of lent.entry.heads.now lent.entry.entries.now lent.entry.orders.now) n table.now ≡ false)) }
 {
+    let held = Held::new(lent)?;
     let end = usize::from(n);
-    tables::used_cells_ok(heads, entries, orders)
-        && tables::trainees_of(heads) == end
-        && depots_ok(&table[..end])
+    if held.trainees() == end && depots_ok(&table[..end]) {
+        Ok(held)
+    } else {
+        Err(Fault::NotRead)
+    }
 }
 
 // The stability test of a table of n trainees: the first trainee whose depot isn't mutual, else the smallest depot over its posts, else the first blocking pair, else stable.
@@ -228,19 +245,9 @@ pub fn test_table<'a>(
     ensures answer { result ≡ test_of heads.now entries.now orders.now n table.now }
     ensures truth { KeepsUnlessRefused heads.now entries.now orders.now n table.now result }
 {
-    if !long_enough(heads, entries, orders, table) {
-        return Err(Refusal {
-            fault: Fault::ShortPart,
-            line: 0,
-        });
-    }
-    if !read_ok(heads, entries, orders, n, table) {
-        return Err(Refusal {
-            fault: Fault::NotRead,
-            line: 0,
-        });
-    }
-    if let Some(line) = tables::first_missing_line(heads) {
+    let lent = long_enough(heads, entries, orders, table)?;
+    let held = read_ok(lent, n, table)?;
+    if let Some(line) = held.missing_line() {
         return Err(Refusal {
             fault: Fault::NotReceived,
             line,

@@ -7,6 +7,7 @@ pub mod Round
 pub mod Entries
 pub mod Walk
 pub mod Seen
+pub mod Same
 pub mod Lines
 pub mod Receipts
 pub mod Views

@@ -10,6 +10,10 @@ use Rattle.meaning.specs.declared.Receipt.{Receipt}
 use Rattle.meaning.specs.declared.Refusal.{Refusal}
 use Rattle.tables.specs.Decode.{Sides, placement_with, placement_of}
 
+-- the tables of a value are those that were lent
+abbrev pub Same : List ℕ → List ℕ → List ℕ → List ℕ → List ℕ → List ℕ → Type 0
+Same h' e' o' h e o = (h' ≡ h) × (e' ≡ e) × (o' ≡ o)
+
 -- ---- number 1
 
 -- each lent table has its full size

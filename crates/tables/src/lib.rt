@@ -493,19 +493,9 @@ pub fn trainee_receipt(
 ) -> Result<Receipt, Refusal>
     ensures { result ≡ trainee_receipt heads.now entries.now orders.now i }
 {
-    if !sizes_ok(heads, entries, orders) {
-        return Err(Refusal {
-            fault: Fault::ShortPart,
-            line: 0,
-        });
-    }
-    if !used_cells_ok(heads, entries, orders) {
-        return Err(Refusal {
-            fault: Fault::NotRead,
-            line: 0,
-        });
-    }
-    Ok(receipt_in(heads, i))
+    let lent = Lent::new(heads, entries, orders)?;
+    let held = Held::new(lent)?;
+    Ok(receipt_in(held.heads, i))
 }
 
 // Trainee i's list, as the part of the lent entries that holds it; the empty part where the receipt is not that it was received.
