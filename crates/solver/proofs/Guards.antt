@@ -16,11 +16,12 @@ use Rattle.meaning.specs.Solver.{WholeRuling, head_of, solve, ruled}
 use Rattle.meaning.specs.Answers.{SHORT_PART, NOT_RECEIVED, NOT_READ, refusal}
 use Rattle.meaning.specs.declared.Ruling.{Ruling}
 use Rattle.meaning.proofs.Solver.{always-ruled}
-use Rattle.tables.specs.Decode.{Sides, sides_of, placement_of}
-use Rattle.tables.specs.Answers.{full_sides, LineOf}
+use Rattle.tables.specs.Decode.{placement_of}
+use Rattle.tables.specs.Answers.{LineOf, Same}
 use Rattle.tables.specs.Walk.{is_some}
 use Rattle.std.specs.Prelude.{Some, None, Ok, Err}
-use Rattle.tables.proofs.Lines.{IsWhole, of-placement, lacking-at, whole-at-zero}
+use Rattle.tables.proofs.Lines.{IsWhole, lacking-at, whole-at-zero}
+use Rattle.tables.proofs.Same.{same-held}
 use Rattle.tables.proofs.Views.{TablesSeen, tables-seen}
 use Rattle.ranks.specs.View.{FullTables}
 use Rattle.ranks.proofs.Held.{full-tables}
@@ -57,19 +58,22 @@ module _ (h e o t : List ℕ) (room : ℕ) where
         go none x y = absurd (false≢true y)
         go (some p) x y = record { placement = p; held = x; by = rw (long, solve_of) (rw x) }
 
+-- the same from what the types of lent tables say
+pub held-tables : {h' e' o' h e o : List ℕ} (t : List ℕ) (room : ℕ) → Same h' e' o' h e o × (roomy h e o (length t) room ≡ true) → is_some (placement_of h' e' o') ≡ true → ReadTables h e o t room
+held-tables t room l k = read-tables _ _ _ t room l.1 (same-held l.0 k)
+
 -- ---- number 7
 
 module _ (h e o t : List ℕ) (room : ℕ) (g : ReadTables h e o t room) where
-  pub solve-lacking : (line : ℕ) → ((e' : List ℕ) (b : Sides) → sides_of h e' ≡ some b → LineOf (full_sides b) (Some line))
-      → (cells : List ℕ) → solve_of h e o t room ≡ some (given_by (Err (refusal NOT_RECEIVED line)) t cells)
+  pub solve-lacking : (line : ℕ) → LineOf (full g.placement) (Some line) → (cells : List ℕ) → solve_of h e o t room ≡ some (given_by (Err (refusal NOT_RECEIVED line)) t cells)
   unfolding solve_if_full ruled and_then recorded strikes_in
-  solve-lacking line gives cells = g.by ∙ rw (lacking-at (full g.placement) line (of-placement h e o g.placement g.held (Some line) gives))
+  solve-lacking line gives cells = g.by ∙ rw (lacking-at (full g.placement) line gives)
 
   -- ---- the ruling
 
-  module _ (gives : (e' : List ℕ) (b : Sides) → sides_of h e' ≡ some b → LineOf (full_sides b) None) where
+  module _ (gives : LineOf (full g.placement) None) where
     its_full : IsWhole (full g.placement)
-    its_full = whole-at-zero g.placement (of-placement h e o g.placement g.held None gives)
+    its_full = whole-at-zero g.placement gives
 
     seen : TablesSeen h e o its_full.value g.placement.orders
     seen = tables-seen h e o g.placement its_full.value g.held its_full.here

@@ -27,6 +27,7 @@ ghost use Rattle.solver.specs.Ends.{struck_in, broken_pair, room_of, left_by, Ke
 use meaning::{Ending, Fault, Reason, Refusal, Ruling, Strike};
 use ranks::Market;
 use reasons::{Orders, Rows, Standing};
+use tables::Held;
 
 // The sweeps' state: the rows of struck places, and the record so far in the front of its cells.
 // No ghost field says Sweeping: between the mark in a row and the strike in the cells it doesn't hold.
@@ -276,19 +277,9 @@ pub fn solve_lent<'a>(
     requires { length cells.old ≡ 16384 }
     ensures { solve_of heads.now entries.now orders.now table.old room ≡ some (given_by result table.new cells.new) }
 {
-    if !rulings::has_room(heads, entries, orders, table.len(), room) {
-        return Err(Refusal {
-            fault: Fault::ShortPart,
-            line: 0,
-        });
-    }
-    if !tables::used_cells_ok(heads, entries, orders) {
-        return Err(Refusal {
-            fault: Fault::NotRead,
-            line: 0,
-        });
-    }
-    if let Some(line) = tables::first_missing_line(heads) {
+    let lent = rulings::lent_with_room(heads, entries, orders, table.len(), room)?;
+    let held = Held::new(lent)?;
+    if let Some(line) = held.missing_line() {
         return Err(Refusal {
             fault: Fault::NotReceived,
             line,
