@@ -49,7 +49,7 @@ fn cell(table: &[u16], at: usize) -> usize
     requires { at < length table.now }
     ensures { result ≡ get_or table.now at 0 }
 {
-    table[at] as usize
+    usize::from(table[at])
 }
 
 // The length or the posts in a cell; none where they were not received.
@@ -123,14 +123,6 @@ pub fn posts_of(heads: &[u16], at: usize) -> Option<usize>
     ensures { CellGives (get_or heads.now (at + 2) 0) result }
 {
     received(heads, at + 2)
-}
-
-// The one whom a list names at place p.
-pub fn entry_of(list: &[u16], p: usize) -> usize
-    requires { p < length list.now }
-    ensures { result ≡ get_or list.now p 0 }
-{
-    cell(list, p)
 }
 
 // The number of orders.
@@ -345,7 +337,7 @@ pub fn orders_ok(orders: &[u16], n: usize, m: usize) -> bool
 }
 
 // Whether a reader could have filled the used cells: number 8 is given back where none could, which is where no legal placement has these fronts
-// (`refused-exactly`, proofs/Round).
+// (`refused-exactly`, proofs/Round). It takes the parts and no `Lent`, which would ask more: its promise holds of entries of any length.
 pub fn used_cells_ok(heads: &[u16], entries: &[u16], orders: &[u16]) -> bool
     requires { (707 ≤ length heads.now) × (3073 ≤ length orders.now) }
     ensures { result ≡ is_some (placement_of heads.now entries.now orders.now) }
