@@ -15,7 +15,7 @@ use lib.ListN.{length-set, length, get_or, set}
 use lib.Seq.{get_or-set_same, get_or-set_other}
 use lib.Dec.{ltb}
 use borrow.Author.Tests.{le-ltb}
-use Rattle.std.specs.Prelude.{Result, Ok, Err}
+use Rattle.std.specs.Prelude.{Ok, Err}
 use Rattle.checker.specs.Step.{may_strike, rows_with}
 use Rattle.checker.specs.Turns.{strikes_from, answer_from, Going}
 use Rattle.checker.proofs.Ways.{open-listed, step-opened}

@@ -7,7 +7,7 @@ use mathlib.Core.Path.{◌≡◌, ◌∙◌}
 use mathlib.Core.Option.{some}
 use mathlib.Core.List.{List}
 use lib.ListN.{length}
-use Rattle.std.specs.Prelude.{Result, Ok, Err}
+use Rattle.std.specs.Prelude.{Ok}
 use Rattle.checker.specs.Check.{check_in}
 use Rattle.rulings.specs.Held.{ruling_in}
 use Rattle.strikes.specs.Cells.{strikes_in}

@@ -1,6 +1,6 @@
 -- The checker's answer to a ruling in plain cells, on what full tables mean.
 -- Assumes nothing.
-use Rattle.std.specs.Prelude.{ℕ, ◌*◌, ◌≤◌, ◌≡◌, true, List, [], length, get_or, Result, Ok, Err}
+use Rattle.std.specs.Prelude.{ℕ, ◌*◌, ◌≤◌, ◌≡◌, true, List, [], length, get_or, Result}
 use Rattle.std.proofs.Math.Option.{some}
 use Rattle.meaning.specs.Placement.{Order, Placement}
 use Rattle.meaning.specs.Full.{Full, whole, full}

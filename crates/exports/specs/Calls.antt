@@ -1,6 +1,6 @@
 -- What a call of the C interface returns and leaves behind: the numbers of its answer (meaning's specs/Answers) over the front of the answer's cells, how many they are, and every other cell that was lent to be changed.
 -- Assumes nothing.
-use Rattle.std.specs.Prelude.{ℕ, ◌/◌, ◌≤◌, ◌≡◌, true, false, List, [], ◌∷◌, length, leb}
+use Rattle.std.specs.Prelude.{ℕ, ◌/◌, true, false, List, [], ◌∷◌, length, leb}
 use Rattle.std.proofs.Math.Option.{Option, none, some}
 use Rattle.meaning.specs.Answers.{reading_numbers, writing_numbers, receipt_numbers, tested_numbers, ruled_numbers}
 use Rattle.tables.specs.Cells.{laid}

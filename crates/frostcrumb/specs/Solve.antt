@@ -3,7 +3,7 @@
 use Rattle.std.specs.Prelude.{ℕ, List, ◌++◌, length, drop}
 use Rattle.std.proofs.Math.Option.{Option, none, some}
 use Rattle.meaning.specs.declared.Strike.{Strike}
-use Rattle.std.specs.Prelude.{Result, Ok, Err}
+use Rattle.std.specs.Prelude.{Result}
 use Rattle.meaning.specs.declared.Refusal.{Refusal}
 use Rattle.meaning.specs.declared.Ruling.{Ruling}
 use Rattle.solver.specs.Answer.{Given, solve_of}

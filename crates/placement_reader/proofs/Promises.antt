@@ -13,7 +13,7 @@ use borrow.Author.Tests.{le-leb}
 use Rattle.meaning.specs.Numbers.{◌&◌}
 use Rattle.meaning.proofs.Numbers.{order}
 use Rattle.fields.specs.Reader.{Step, got, refusal as refusal-at}
-use Rattle.meaning.specs.Answers.{SHORT_PART, LONG_TEXT, fault_number, fault_of, refusal}
+use Rattle.meaning.specs.Answers.{SHORT_PART, LONG_TEXT, fault_number, refusal}
 use Rattle.meaning.proofs.Answers.{number-high}
 use Rattle.meaning.specs.Placement.{Placement, Legal}
 use Rattle.meaning.specs.declared.Refusal.{Refusal}

@@ -6,7 +6,7 @@ use mathlib.Core.Bool.{true, false}
 use mathlib.Core.List.{List}
 use native.Mathlib.Omega.{arith}
 use lib.ListN.{length, take}
-use Rattle.meaning.specs.Answers.{SHORT_PART, LONG_TEXT, fault_number, refusal}
+use Rattle.meaning.specs.Answers.{SHORT_PART, LONG_TEXT, refusal}
 use Rattle.meaning.specs.Placement.{Placement}
 use Rattle.std.specs.Prelude.{Ok, Err}
 use Rattle.meaning.specs.declared.Refusal.{Refusal}

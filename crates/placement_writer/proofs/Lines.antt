@@ -8,9 +8,7 @@ use mathlib.Core.List.{List, [], ◌∷◌, ◌++◌, append_assoc}
 use native.Mathlib.Omega.{arith}
 use lib.ListN.{length, get_or, drop, length-drop, length-append}
 use lib.Seq.{length-take-le}
-use lib.Dec.{eqb}
-use borrow.Author.Tests.{eq-eqb, ne_eqb, eqb-true, eqb-false}
-use Rattle.meaning.proofs.Booleans.{true-or-false}
+use borrow.Author.Tests.{eq-eqb, ne_eqb}
 use Rattle.fields.specs.Writer.{write_number, write_numbers, write_line, write_lines, lines_by}
 use Rattle.tables.specs.Cells.{missing_cell, part, CellGives, trainee_start, depot_start, order_start}
 use Rattle.placement_text.specs.Words.{word_?, word_placement, letter}

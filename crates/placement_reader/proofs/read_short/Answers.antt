@@ -1,13 +1,8 @@
 -- A refusal leaves the lent tables alone; what was read stands in the scratch tables' fronts, which are laid over the lent ones.
-use Prim.Native.Nat.{◌+◌}
-use mathlib.Core.Path.{◌≡◌, refl, sym, ◌∙◌}
+use mathlib.Core.Path.{sym, ◌∙◌}
 use native.Mathlib.Omega.{arith}
 use lib.Seq.{length-take-le}
-use denote.Enum.Declared.{tag_of}
-use Rattle.meaning.specs.contracts.Fault.{the_type}
-use Rattle.meaning.specs.declared.Fault.{Fault}
 use Rattle.std.specs.Prelude.{Ok}
-use Rattle.meaning.specs.Answers.{fault_number}
 use Rattle.placement_reader.specs.Reading.{reads}
 use Rattle.placement_reader.proofs.Below.{few-lines}
 use Rattle.placement_reader.proofs.Ways.{answer-refused, used_fits, answer-taken}

@@ -1,9 +1,8 @@
 -- The length or the mark, and then the part of the entries.
-use Prim.Native.Nat.{ℕ, ◌+◌, ◌<◌}
-use mathlib.Core.Path.{sym, ap, ◌∙◌, subst}
+use Prim.Native.Nat.{◌+◌, ◌<◌}
+use mathlib.Core.Path.{ap, ◌∙◌, subst}
 use native.Mathlib.Omega.{arith}
 use lib.ListN.{get_or}
-use Rattle.std.specs.Prelude.{Option as Answer}
 use Rattle.tables.specs.Cells.{CellGives}
 use Rattle.fields.proofs.Pens.{wrote_as, wrote_then, room_next}
 use Rattle.placement_text.specs.Writer.{write_received}

@@ -1,6 +1,6 @@
 -- The parts of the line one after the other.
 use Prim.Native.Nat.{◌+◌}
-use mathlib.Core.Path.{ap, ◌∙◌}
+use mathlib.Core.Path.{ap}
 use native.Mathlib.Omega.{arith}
 use mathlib.Core.List.{[], ◌∷◌, ◌++◌}
 use lib.ListN.{length, get_or}
