@@ -147,7 +147,7 @@ fn left_table(rows: &Rows) -> [u16; 256]
     left
 }
 
-// Whether a trainee at depot c, 0 for none, is wherever they are held and nowhere from where they are barred.
+// Whether a trainee at depot c, 0 for none as the cell of a table has it, is wherever they are held and nowhere from where they are barred.
 fn obeys_rows(held: u64, barred: u64, c: usize) -> bool
     requires { c ≤ 64 }
     ensures { result ≡ obeys_rows held barred c }

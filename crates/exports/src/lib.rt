@@ -1,5 +1,5 @@
 // The C interface: the public functions over plain slices. Each answer is given as its numbers, laid over the front of 8 or more lent cells, and
-// each function returns how many they are. With fewer than 8 cells it returns 0 and changes nothing.
+// each function returns how many they are. With fewer than 8 cells it returns 0 and changes nothing: each tests that before its call, as the interface says.
 #![tactic(auto)]
 
 ghost use Rattle.std.specs.Prelude.{◌≡◌, ℕ, List, [], ◌∷◌, ◌≤◌, length};

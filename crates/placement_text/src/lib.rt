@@ -335,7 +335,8 @@ pub fn order_lines(
     Ok(c)
 }
 
-// The numbers of trainees and depots, and the end of the line.
+// The numbers of trainees and depots, and the end of the line. The ruling's first line has other limits and names, and each text's definition stands whole
+// in its specs/Reader, so that one function for both would be no plainer.
 #[tactic(auto, unfolding(crate::specs::Reader::sizes))]
 fn sizes(text: &mut Cursor) -> Result<Sizes, Wrong>
     ensures { SizesRead text.old.rest.now text.new.rest.now result }

@@ -29,7 +29,7 @@ pub fn mark_if(row: u64, p: usize, shut: bool) -> u64
     if shut { with_mark(row, p) } else { row }
 }
 
-// The best place left on a list, 64 where none is left.
+// The best place left on a list, 64 where none is left: past every place, so that it compares with places as it is, and an Option would be no plainer.
 pub fn first_left(row: u64) -> usize
     ensures { result ≡ first_place_left row }
 {

@@ -223,7 +223,7 @@ fn body_at(
     })
 }
 
-// The number of trainees and the number of strikes, in the fields 3 and 4 of the first line, and the line's end.
+// The number of trainees and the number of strikes, in the fields 3 and 4 of the first line, and the line's end; like the placement's, but for limits and names.
 #[tactic(auto, unfolding(crate::specs::Reader::sizes))]
 fn sizes_at(text: &mut Cursor) -> Result<Sizes, Wrong>
     ensures { HeadRead (sizes text.old.rest.now) text.new.rest.now result }

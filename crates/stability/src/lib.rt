@@ -151,7 +151,7 @@ impl<'a> Search<'a> {
     }
 }
 
-// Whether trainee i has a depot j that isn't mutual, 0 for none.
+// Whether trainee i has a depot j that isn't mutual, 0 for none, as the cell of a table has it.
 fn is_stranger(market: &Market, i: usize, j: usize) -> bool
     requires { In (n_of market.now.heads.now) i }
     ensures { result ≡ (ltb 0 j & not (mutual? (market_of market.now.heads.now market.now.entries.now) i j)) }

@@ -24,7 +24,8 @@ pub fn put_strike(cells: &mut [u16], k: usize, s: Strike)
     cells[b..b + 4].copy_from_slice(&<[u16; 4]>::from(s));
 }
 
-// The strikes that the cells hold go into the record's front, and the rest of the record stays.
+// The strikes that the cells hold go into the record's front, and the rest of the record stays. What fills has a loop for each pair of source and target:
+// a closure for where the k-th strike comes from, with a law for each, would be no plainer.
 pub fn fill_record(log: &mut [Strike], cells: &[u16], count: usize)
     requires { (count ≤ length log.old) × (4 * count ≤ length cells.now) }
     ensures { log.new ≡ filled cells.now log.old count }

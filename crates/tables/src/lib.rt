@@ -376,7 +376,7 @@ pub fn first_missing_line(heads: &[u16]) -> Option<u16>
     Some((n + 1 + j) as u16)
 }
 
-// Whether each lent table has its full size: number 1 is given back where one has not.
+// Whether each lent table has its full size: number 1 is given back where one has not. This and the next tests take the parts, since the types are built by them.
 pub fn sizes_ok(heads: &[u16], entries: &[u16], orders: &[u16]) -> bool
     ensures { result ≡ sized heads.now entries.now orders.now }
 {
