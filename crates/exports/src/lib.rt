@@ -27,7 +27,7 @@ impl Answer for Result<(), Refusal> {
     fn lay(self, answer: &mut [u64]) -> usize {
         match self {
             Ok(()) => lay(answer, &[0]),
-            Err(r) => lay_refusal(answer, 1, r),
+            Err(refusal) => lay_refusal(answer, 1, refusal),
         }
     }
 }

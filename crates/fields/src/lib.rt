@@ -45,7 +45,7 @@ impl Wrong {
     }
 }
 
-// The value of at most five digits.
+// The value of at most five digits. Not the library's `parse`, which takes a sign and leading zeros that document 01 refuses (`number_of`).
 fn value_in(word: &[u8]) -> Option<u32>
     requires { length word.now ≤ 5 }
     ensures { result ≡ num_of (value 0 word.now) }

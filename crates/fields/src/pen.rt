@@ -45,7 +45,7 @@ impl<'a> Pen<'a> {
         self.at = end;
     }
 
-    // Puts the digits of a number.
+    // Puts the digits of a number. Not by `write!`, whose writer can fail, where there is room for all that is put: a case more, and no plainer.
     fn digits(&mut self, v: u16)
         requires { Room self.old (digits_of v) }
         ensures { Wrote self.old self.new (digits_of v) }

@@ -114,7 +114,7 @@ pub enum Fault {
     NotRead,
 }
 
-// A refusal: the number given back, and the line that it gives.
+// A refusal: the number given back, and the line that it gives, 0 where there is none, as document 01 and the C interface have it.
 #[derive(Clone, Copy)]
 pub struct Refusal {
     pub fault: Fault,
@@ -138,7 +138,7 @@ pub enum Receipt {
     OutOfRange,
 }
 
-// What the stability test finds in a table: nothing wrong, or the first thing wrong.
+// What the stability test finds in a table; stable is one of document 01's four answers (`tested_numbers`), so that an Option would be no plainer.
 #[derive(Clone, Copy)]
 pub enum Tested {
     Stable,

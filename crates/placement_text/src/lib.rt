@@ -24,7 +24,7 @@ pub struct DepotRow {
     pub list: Option<u16>,
 }
 
-// What a line below the depots is, by its word.
+// What a line below the depots is, by its word: both cases are words of the text, so that an Option would be no plainer.
 #[derive(Clone, Copy)]
 pub enum Opening {
     Order(Kind),

@@ -123,7 +123,7 @@ impl Lines for OrderLines<'_> {
 
     fn put(&self, k: usize, pen: &mut Pen) {
         let cells = tables::order_at(k);
-        let word = kind_word(tables::order_kind(self.orders, cells));
+        let word = kind_word(tables::kind_at(self.orders, cells));
         let trainee = tables::order_trainee(self.orders, cells) as u16;
         let depot = tables::order_depot(self.orders, cells) as u16;
         pen.line(word, &[trainee, depot]);

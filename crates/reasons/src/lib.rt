@@ -235,7 +235,7 @@ impl<'a> Orders<'a> {
         requires { k < get_or self.now.cells.now 0 0 }
         ensures { result ≡ eqb (get_or self.now.cells.now (order_start k) 0) 0 }
     {
-        tables::order_kind(self.cells, tables::order_at(k)) == Some(Kind::Held)
+        tables::kind_at(self.cells, tables::order_at(k)) == Some(Kind::Held)
     }
 
     // The trainee of the order at k.

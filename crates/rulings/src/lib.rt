@@ -26,10 +26,3 @@ pub fn lent_with_room<'a>(
         Err(Fault::ShortPart)
     }
 }
-
-// Whether each lent part has the full size of its table, and the record room for every strike.
-pub fn has_room(heads: &[u16], entries: &[u16], orders: &[u16], cells: usize, room: usize) -> bool
-    ensures { result ≡ roomy heads.now entries.now orders.now cells room }
-{
-    lent_with_room(heads, entries, orders, cells, room).is_ok()
-}

@@ -29,7 +29,7 @@ use ranks::Market;
 use reasons::{Orders, Rows, Standing};
 use tables::Held;
 
-// The sweeps' state: the rows of struck places, and the record so far in the front of its cells.
+// The sweeps' state: the rows of struck places, and the record so far in the front of its cells (there is no heap).
 // No ghost field says Sweeping: between the mark in a row and the strike in the cells it doesn't hold.
 #[derive(Drop)]
 struct Sweeps<'a, 'r> {

@@ -52,7 +52,8 @@ impl<'a> Trial<'a> {
         None
     }
 
-    // The worst rank among each depot's trainees, so that no pair looks for it again.
+    // The worst rank among each depot's trainees, so that no pair looks for it again; 0, below every rank, where there is none: it compares as it is, and an Option
+    // would be no plainer.
     fn worsts(&self) -> [u16; 65]
         requires { PairTables self.now.market.heads.now self.now.market.entries.now self.now.table.now }
         ensures { Worsts (market_of self.now.market.heads.now self.now.market.entries.now) (table_of self.now.table.now) (n_of self.now.market.heads.now) result }

@@ -42,7 +42,7 @@ impl TryFrom<u16> for Kind {
 }
 
 // The cell of a length or of posts not received.
-const NOT_RECEIVED: usize = 65535;
+pub const NOT_RECEIVED: usize = 65535;
 
 // The number in a cell.
 fn cell(table: &[u16], at: usize) -> usize
@@ -141,8 +141,16 @@ pub fn order_at(k: usize) -> usize
     3 * k + 1
 }
 
-// The kind of the order whose cells stand at `at`; none where the cell stands for no kind.
-pub fn order_kind(orders: &[u16], at: usize) -> Option<Kind>
+// The number in the cell of an order's kind, whose cells stand at `at`.
+pub fn order_kind(orders: &[u16], at: usize) -> usize
+    requires { at < length orders.now }
+    ensures { result ≡ get_or orders.now at 0 }
+{
+    cell(orders, at)
+}
+
+// The kind of the order whose cells stand at `at`; none where the number is no kind's.
+pub fn kind_at(orders: &[u16], at: usize) -> Option<Kind>
     requires { at < length orders.now }
     ensures { KindGives (get_or orders.now at 0) result }
 {
@@ -314,7 +322,7 @@ fn order_ok(orders: &[u16], at: usize, n: usize, m: usize) -> bool
     requires { at + 2 < length orders.now }
     ensures { result ≡ is_some (order_from n m 0 (drop at orders.now) []) }
 {
-    order_kind(orders, at).is_some()
+    kind_at(orders, at).is_some()
         && in_range(order_trainee(orders, at), n)
         && in_range(order_depot(orders, at), m)
 }
@@ -445,13 +453,6 @@ impl<'a> Held<'a> {
         ensures { result ≡ get_or self.now.heads.now 1 0 }
     {
         trainees_of(self.heads)
-    }
-
-    // The number of depots.
-    pub fn depots(&self) -> usize
-        ensures { result ≡ get_or self.now.heads.now 2 0 }
-    {
-        depots_of(self.heads)
     }
 
     // The line that number 7 gives; none where all was received.

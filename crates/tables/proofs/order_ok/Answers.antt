@@ -10,12 +10,12 @@ pub returns-then-in_range : goal.returns-then-in_range
 unfolding ◌&◌
 returns-then-in_range c =
     let a = c.args in
-    let k = c.is_some.ensures ∙ kind-tests _ _ c.order_kind.ensures in
+    let k = c.is_some.ensures ∙ kind-tests _ _ c.kind_at.ensures in
     rw (order-tests a.n a.m a.at a.orders.now (omega arith)) (grind (arith, nat_tests, k))
 
 pub returns-else-in_range : goal.returns-else-in_range
 unfolding ◌&◌
 returns-else-in_range c =
     let a = c.args in
-    let k = c.is_some.ensures ∙ kind-tests _ _ c.order_kind.ensures in
+    let k = c.is_some.ensures ∙ kind-tests _ _ c.kind_at.ensures in
     rw (order-tests a.n a.m a.at a.orders.now (omega arith)) (grind (arith, nat_tests, k))

@@ -13,10 +13,10 @@ overflow_cast-depot c = omega (arith, c.args.self.now.fits (c.order_at-cells.res
 
 pub line-requires : goal.line-requires
 line-requires c =
-    let e = order-line c.args.self.now.orders.now c.order_at-cells.result _ c.kind_word-word.ensures c.order_kind.ensures c.order_trainee-trainee.ensures c.order_depot-depot.ensures in
+    let e = order-line c.args.self.now.orders.now c.order_at-cells.result _ c.kind_word-word.ensures c.kind_at.ensures c.order_trainee-trainee.ensures c.order_depot-depot.ensures in
     rw (e, c.order_at-cells.ensures) c.requires.1
 
 pub returns : goal.returns
 returns c =
-    let e = order-line c.args.self.now.orders.now c.order_at-cells.result _ c.kind_word-word.ensures c.order_kind.ensures c.order_trainee-trainee.ensures c.order_depot-depot.ensures in
+    let e = order-line c.args.self.now.orders.now c.order_at-cells.result _ c.kind_word-word.ensures c.kind_at.ensures c.order_trainee-trainee.ensures c.order_depot-depot.ensures in
     rw (← c.order_at-cells.ensures) (wrote_as e c.line.ensures)

@@ -19,4 +19,4 @@ held-test v r k true e = sym (eq-eqb v 0 (is-held v r k e))
 held-test v r k false e = sym (ne_eqb v 0 (not-held v r k e))
 
 pub returns : goal.returns
-returns c = held-test _ _ c.order_kind.ensures _ c.eq.ensures ∙ ap (λ a. eqb (get_or c.args.self.now.cells.now a 0) 0) c.order_at.ensures
+returns c = held-test _ _ c.kind_at.ensures _ c.eq.ensures ∙ ap (λ a. eqb (get_or c.args.self.now.cells.now a 0) 0) c.order_at.ensures
