@@ -11,7 +11,7 @@ pub mod pen;
 
 use meaning::Fault;
 
-// What is left of a text. Each method reads from its front and moves past what it has read.
+// What is left of a text. Each method reads from its front and moves past what it has read; where it answers with an error, what is left stays as it was.
 #[derive(Clone, Copy)]
 pub struct Cursor<'a> {
     pub rest: &'a [u8],
@@ -103,7 +103,8 @@ impl<'a> Cursor<'a> {
     // The word of the field k, after its tab.
     #[tactic(auto, unfolding(crate::specs::Reader::field, crate::specs::Reader::first))]
     pub fn field(&mut self, k: usize) -> Result<&'a [u8], Wrong>
-        ensures { WordRead (field k self.old.rest.now) self.new.rest.now result }
+        ensures read { WordRead (field k self.old.rest.now) self.new.rest.now result }
+        ensures kept { OnErr result (self.new.rest.now ≡ self.old.rest.now) }
     {
         self.byte(b'\t', k)?;
         Ok(self.word())
@@ -112,49 +113,60 @@ impl<'a> Cursor<'a> {
     // The number in the field k.
     #[tactic(auto, unfolding(crate::specs::Reader::figure, crate::specs::Reader::formed))]
     pub fn figure(&mut self, k: usize) -> Result<u32, Wrong>
-        ensures { StepRead (figure k self.old.rest.now) self.new.rest.now result }
+        ensures read { StepRead (figure k self.old.rest.now) self.new.rest.now result }
+        ensures kept { OnErr result (self.new.rest.now ≡ self.old.rest.now) }
     {
-        let w = self.field(k)?;
-        number_in(w).ok_or(Wrong {
+        let mut after = *self;
+        let w = after.field(k)?;
+        let v = number_in(w).ok_or(Wrong {
             fault: Fault::WrongForm,
             field: k,
-        })
+        })?;
+        *self = after;
+        Ok(v)
     }
 
     // The number of lo to hi in the field k.
     #[tactic(auto, unfolding(crate::specs::Reader::number))]
     pub fn number(&mut self, k: usize, lo: u16, hi: u16) -> Result<u16, Wrong>
-        ensures { StepRead (number k lo hi self.old.rest.now) self.new.rest.now result }
+        ensures read { StepRead (number k lo hi self.old.rest.now) self.new.rest.now result }
+        ensures kept { OnErr result (self.new.rest.now ≡ self.old.rest.now) }
     {
-        let v = self.figure(k)?;
+        let mut after = *self;
+        let v = after.figure(k)?;
         if v < lo as u32 || (hi as u32) < v {
             return Err(Wrong {
                 fault: Fault::OutOfRange,
                 field: k,
             });
         }
+        *self = after;
         Ok(v as u16)
     }
 
     // The number v in the field k: an edition, a running number.
     #[tactic(auto, unfolding(crate::specs::Reader::running, crate::specs::Reader::unless))]
     pub fn running(&mut self, k: usize, v: u16) -> Result<(), Wrong>
-        ensures { StepRead (running k v self.old.rest.now) self.new.rest.now result }
+        ensures read { StepRead (running k v self.old.rest.now) self.new.rest.now result }
+        ensures kept { OnErr result (self.new.rest.now ≡ self.old.rest.now) }
     {
-        let u = self.figure(k)?;
+        let mut after = *self;
+        let u = after.figure(k)?;
         if u != v as u32 {
             return Err(Wrong {
                 fault: Fault::WrongForm,
                 field: k,
             });
         }
+        *self = after;
         Ok(())
     }
 
     // The end of a line in the place of the field k.
     #[tactic(auto, unfolding(crate::specs::Reader::line_end))]
     pub fn line_end(&mut self, k: usize) -> Result<(), Wrong>
-        ensures { StepRead (line_end k self.old.rest.now) self.new.rest.now result }
+        ensures read { StepRead (line_end k self.old.rest.now) self.new.rest.now result }
+        ensures kept { OnErr result (self.new.rest.now ≡ self.old.rest.now) }
     {
         self.byte(b'\n', k)
     }
@@ -164,23 +176,27 @@ impl<'a> Cursor<'a> {
         ensures read { StepRead (keyword w.now self.old.rest.now) self.new.rest.now result }
         ensures kept { OnErr result (self.new.rest.now ≡ self.old.rest.now) }
     {
-        let mut after = *self;
-        if after.word() != w {
+        let mut past = *self;
+        if past.word() != w {
             return Err(Wrong {
                 fault: Fault::WrongForm,
                 field: 1,
             });
         }
-        *self = after;
+        *self = past;
         Ok(())
     }
 
     // The word w and the running number i at the beginning of a line.
     #[tactic(auto, unfolding(crate::specs::Reader::numbered))]
     pub fn numbered(&mut self, w: &[u8], i: u16) -> Result<(), Wrong>
-        ensures { StepRead (numbered w.now i self.old.rest.now) self.new.rest.now result }
+        ensures read { StepRead (numbered w.now i self.old.rest.now) self.new.rest.now result }
+        ensures kept { OnErr result (self.new.rest.now ≡ self.old.rest.now) }
     {
-        self.keyword(w)?;
-        self.running(2, i)
+        let mut after = *self;
+        after.keyword(w)?;
+        after.running(2, i)?;
+        *self = after;
+        Ok(())
     }
 }

@@ -2,21 +2,18 @@
 -- Assumes nothing.
 use Prim.Native.Nat.{ℕ, zero, suc, ◌+◌, ◌-◌, ◌*◌, ◌≤◌, ◌<◌}
 use mathlib.Core.Path.{◌≡◌, refl, sym, ap, ap₂, ◌∙◌}
-use mathlib.Core.Logic.{⊎_elim}
-use mathlib.Core.Bool.{true, false, true≢false}
+use mathlib.Core.Bool.{true, false}
 use mathlib.Core.List.{List, [], ◌∷◌, ◌++◌}
 use native.Mathlib.Omega.{arith}
 use native.Mathlib.Nat.{add-zero}
 use lib.ListN.{length, set, length-append}
 use lib.Seq.{sets, set_comm}
-use Rattle.std.specs.Prelude.{Option, Some, Result, Ok, Err, MatchResult, is_ok, OnErr}
-use Rattle.meaning.specs.Placement.{Kind, Order}
-use Rattle.fields.specs.Bytes.{word_of, rest_of, same, word_end}
+use Rattle.std.specs.Prelude.{Option, Some, Result, Ok, Err, MatchResult}
+use Rattle.meaning.specs.Placement.{Kind, Order, held, barred}
+use Rattle.fields.specs.Bytes.{word_of, same, word_end}
 use Rattle.fields.specs.declared.Wrong.{Wrong}
-use Rattle.fields.specs.Leaves.{wrong_on, StepRead}
-use Rattle.fields.proofs.Steps.{refusal-not-got, unless-there}
-use Rattle.meaning.proofs.Booleans.{true-or-false}
-use Rattle.fields.specs.Reader.{got, refusal, unless, first, keyword}
+use Rattle.fields.specs.Leaves.{wrong_on, FirstRead}
+use Rattle.fields.specs.Reader.{got, refusal}
 use Rattle.fields.proofs.Puts.{sets-append}
 use Rattle.tables.proofs.Series.{series-cells}
 use Rattle.tables.proofs.One.{order-wide}
@@ -34,36 +31,28 @@ use Rattle.placement_text.proofs.Turns.{series-end, three-cells}
 
 -- ---- the word
 
-pub keyword_gone : (w q : List ℕ) {x f : ℕ} → keyword w q ≡ refusal x 0 f → same (word_of q) w ≡ false
-unfolding keyword first
-keyword_gone w q e = ⊎_elim
-    (λ (t : same (word_of q) w ≡ true). absurd (refusal-not-got (sym e ∙ unless-there 3 1 (same (word_of q) w) (rest_of q) t)))
-    (λ f. f)
-    (true-or-false (same (word_of q) w))
+-- w stands at the front, and r follows
+module _ {q r w : List ℕ} (F : FirstRead q r w) where
+  opened : (o : reader.Opening) → opening_of w ≡ o → Opened q o r
+  opened o e = record { opens = ap opening_of (sym F.word) ∙ e; rest = sym F.rest }
 
--- another word refuses in the first field
-pub keyword-wrong : (w q : List ℕ) {x f : ℕ} → keyword w q ≡ refusal x 0 f → (x ≡ 3) × (f ≡ 1)
-unfolding keyword first unless
-keyword-wrong w q {x} {f} e = elim (same (word_of q) w) as (λ b. unless 3 1 b (rest_of q) ≡ refusal x 0 f → (x ≡ 3) × (f ≡ 1)) [
-  | true ↦ (λ h. absurd (refusal-not-got (sym h)))
-  | false ↦ (λ h. (cc, cc))
-] e
+  pub opens-held : same w word_F ≡ true → Opened q (reader.order held) r
+  unfolding opening_of
+  opens-held f = opened (reader.order held) (rw (f, opening_of))
 
--- another word stands there, and nothing was read
-pub record Other (w q r : List ℕ) : Type 0 where
-  pub differs : same (word_of q) w ≡ false
-  pub kept : r ≡ q
+  module _ (f : same w word_F ≡ false) where
+    pub opens-barred : same w word_X ≡ true → Opened q (reader.order barred) r
+    unfolding opening_of
+    opens-barred x = opened (reader.order barred) (rw (f, x, opening_of))
 
-pub other-word : (w q r : List ℕ) (x : Result (Unit {0}) Wrong) → is_ok x ≡ false → StepRead (keyword w q) r x → OnErr x (r ≡ q) → Other w q r
-other-word w q r (Ok _) t h g = absurd (true≢false t)
-other-word w q r (Err y) t h g = record { differs = keyword_gone w q h; kept = g }
+    module _ (x : same w word_X ≡ false) where
+      pub opens-end : same w word_end ≡ true → Opened q reader.ending r
+      unfolding opening_of
+      opens-end e = opened reader.ending (rw (f, x, e, opening_of))
 
-module _ {q p o : List ℕ} (F : Other word_F q p) (X : Other word_X p o) where
-  same-place : o ≡ q
-  same-place = X.kept ∙ F.kept
-
-  not-barred : same (word_of q) word_X ≡ false
-  not-barred = rw F.kept at X.differs
+      pub opens-other : same w word_end ≡ false → opening_of (word_of q) ≡ reader.other
+      unfolding opening_of
+      opens-other e = ap opening_of (sym F.word) ∙ rw (f, x, e, opening_of)
 
 -- ---- one line
 
@@ -87,16 +76,6 @@ module _ (n m l : ℕ) (q : List ℕ) where
         → orders (1024 - c) n m l os q ≡ orders (1024 - (c + 1)) n m (l + 1) (os ++ o ∷ []) r'
     unfolding orders
     orders-goes os e = let k : 1024 - c ≡ suc (1024 - (c + 1)) = omega arith in rw k (rw (O.opens, orders) (rw (O.rest, e)))
-
--- the line l opens with none of the words
-pub opens-other : (l : ℕ) {q p o : List ℕ} → Other word_F q p → Other word_X p o → {x f : ℕ} → keyword word_end o ≡ refusal x 0 f
-    → (n m k : ℕ) (os : List Order) → orders k n m l os q ≡ refusal x l f
-unfolding opening_of
-opens-other l {q} F X {x} {f} e n m k os =
-    let h : keyword word_end q ≡ refusal x 0 f = rw (same-place F X) at e in
-    let w = keyword-wrong word_end q h in
-    let o : opening_of (word_of q) ≡ reader.other = rw (F.differs, not-barred F X, keyword_gone word_end q h, opening_of) in
-    orders-other n m l q k os o ∙ ap₂ (λ y z. refusal y l z) (sym w.0) (sym w.1)
 
 -- a pair's line
 pub pair-line : (n m l c : ℕ) (q p r : List ℕ) (b : declared.Kind) (x : Result Pair Wrong) (y : Result (Option Pair) Misread) → c < 1024 → Opened q (reader.order (kind_of b)) p

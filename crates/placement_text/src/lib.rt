@@ -2,7 +2,7 @@
 // A field is read from its tab on. A refusal has its field; the line is added where lines are counted.
 #![tactic(auto)]
 
-ghost use Rattle.std.specs.Prelude.{◌≡◌, [], ◌+◌, ◌*◌, ◌≤◌, length};
+ghost use Rattle.std.specs.Prelude.{◌≡◌, [], ◌+◌, ◌*◌, ◌≤◌, length, OnErr};
 ghost use Rattle.std.proofs.Math.Option.{some};
 ghost use Rattle.meaning.specs.Placement.{size, depot_size};
 ghost use Rattle.fields.specs.Reader.{lines};
@@ -205,16 +205,19 @@ pub fn trainee_lines(
     t: &mut [u16],
 ) -> Result<usize, Misread>
     requires { (3 + 2 * sizes.trainees ≤ length h.old) × (8192 ≤ length t.old) }
-    ensures { TraineesRead (lines (trainee_line sizes.depots) size sizes.trainees 1 0 [] text.old.rest.now) h.old h.new t.old t.new text.new.rest.now result }
+    ensures read { TraineesRead (lines (trainee_line sizes.depots) size sizes.trainees 1 0 [] text.old.rest.now) h.old h.new t.old t.new text.new.rest.now result }
+    ensures kept { OnErr result (text.new.rest.now ≡ text.old.rest.now) }
 {
+    let mut after = *text;
     let mut total: usize = 0;
     for c in 0..sizes.trainees as usize {
-        let list = trainee_line(text, sizes, c as u16 + 1, Room { base: 0, total }, t)?;
+        let list = trainee_line(&mut after, sizes, c as u16 + 1, Room { base: 0, total }, t)?;
         let q = 3 + 2 * c;
         h[q] = total as u16;
         h[q + 1] = list.unwrap_or(65535);
         total += list.unwrap_or(0) as usize;
     }
+    *text = after;
     Ok(total)
 }
 
@@ -228,34 +231,43 @@ pub fn depot_lines(
     t: &mut [u16],
 ) -> Result<usize, Misread>
     requires { (base ≤ 4096) × (3 + 2 * sizes.trainees + 3 * sizes.depots ≤ length h.old) × (8192 ≤ length t.old) }
-    ensures { DepotsRead (lines (depot_line sizes.trainees) depot_size sizes.depots 1 0 [] text.old.rest.now) sizes.trainees base h.old h.new t.old t.new text.new.rest.now result }
+    ensures read { DepotsRead (lines (depot_line sizes.trainees) depot_size sizes.depots 1 0 [] text.old.rest.now) sizes.trainees base h.old h.new t.old t.new text.new.rest.now result }
+    ensures kept { OnErr result (text.new.rest.now ≡ text.old.rest.now) }
 {
+    let mut after = *text;
     let first = 3 + 2 * sizes.trainees as usize;
     let mut total: usize = 0;
     for c in 0..sizes.depots as usize {
-        let row = depot_line(text, sizes, c as u16 + 1, Room { base, total }, t)?;
+        let row = depot_line(&mut after, sizes, c as u16 + 1, Room { base, total }, t)?;
         let q = first + 3 * c;
         h[q] = (base + total) as u16;
         h[q + 1] = row.list.unwrap_or(65535);
         h[q + 2] = row.posts.unwrap_or(65535);
         total += row.list.unwrap_or(0) as usize;
     }
+    *text = after;
     Ok(total)
 }
 
-// The word of the line l below the depots.
-#[tactic(auto, unfolding(crate::specs::Reader::orders, crate::specs::Reader::opening_of, fields::specs::Reader::keyword, fields::specs::Reader::first, fields::specs::Reader::unless))]
+// The word of the line l below the depots, looked for once: an unknown one may be long.
 fn opening_of(text: &mut Cursor, l: usize) -> Result<Opening, Misread>
     ensures { OpeningRead l text.old.rest.now text.new.rest.now result }
 {
-    if text.keyword(b"F").is_ok() {
+    let word = text.word();
+    if word == b"F".as_slice() {
         return Ok(Opening::Order(Kind::Held));
     }
-    if text.keyword(b"X").is_ok() {
+    if word == b"X".as_slice() {
         return Ok(Opening::Order(Kind::Barred));
     }
-    text.keyword(b"end").map_err(|w| w.on(l))?;
-    Ok(Opening::End)
+    if word == b"end".as_slice() {
+        return Ok(Opening::End);
+    }
+    Err(Misread {
+        fault: Fault::WrongForm,
+        line: l,
+        field: 1,
+    })
 }
 
 // The fields of a held or barred pair, after its word.
@@ -320,11 +332,13 @@ pub fn order_lines(
     o: &mut [u16],
 ) -> Result<usize, Misread>
     requires { (l ≤ 1024) × (3073 ≤ length o.old) }
-    ensures { PairsRead (orders 1024 sizes.trainees sizes.depots l [] text.old.rest.now) o.old o.new result }
+    ensures read { PairsRead (orders 1024 sizes.trainees sizes.depots l [] text.old.rest.now) o.old o.new result }
+    ensures kept { OnErr result (text.new.rest.now ≡ text.old.rest.now) }
 {
+    let mut after = *text;
     let mut c: usize = 0;
     // How many pairs there are is known at the end line alone, so that a `for` would be no plainer.
-    while let Some(pair) = order(text, sizes, l + c, c)? {
+    while let Some(pair) = order(&mut after, sizes, l + c, c)? {
         let q = 1 + 3 * c;
         o[q] = pair.kind as u16;
         o[q + 1] = pair.trainee;
@@ -332,6 +346,7 @@ pub fn order_lines(
         c += 1;
     }
     o[0] = c as u16;
+    *text = after;
     Ok(c)
 }
 
@@ -350,9 +365,13 @@ fn sizes(text: &mut Cursor) -> Result<Sizes, Wrong>
 // The first line of the text.
 #[tactic(auto, unfolding(crate::specs::Reader::head_fields, crate::specs::Reader::edition))]
 pub fn head(text: &mut Cursor) -> Result<Sizes, Wrong>
-    ensures { HeadRead text.old.rest.now text.new.rest.now result }
+    ensures read { HeadRead text.old.rest.now text.new.rest.now result }
+    ensures kept { OnErr result (text.new.rest.now ≡ text.old.rest.now) }
 {
-    text.keyword(b"placement")?;
-    text.running(2, 1)?;
-    sizes(text)
+    let mut after = *text;
+    after.keyword(b"placement")?;
+    after.running(2, 1)?;
+    let sizes = sizes(&mut after)?;
+    *text = after;
+    Ok(sizes)
 }

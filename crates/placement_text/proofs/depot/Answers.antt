@@ -4,5 +4,5 @@ use Rattle.placement_text.proofs.depot.Goals as goal
 
 pub returns : goal.returns
 returns c =
-    depot-row c.args.sizes.trainees c.args.j c.args.room.total _ _ c.in_ok-posts.posts c.in_ok-list.list c.in_ok-numbered.ensures c.in_ok-posts.ensures
+    depot-row c.args.sizes.trainees c.args.j c.args.room.total _ _ c.in_ok-posts.posts c.in_ok-list.list c.in_ok-numbered.ensures.read c.in_ok-posts.ensures
     c.in_ok-list.ensures

@@ -6,8 +6,8 @@ use Rattle.placement_text.proofs.depot_lines.Goals as goal
 pub loop-c-init : goal.loop-c-init
 loop-c-init c = depot-start c.args.sizes.trainees c.args.base c.args.text.now.rest.now c.args.sizes.depots c.args.h.now c.args.t.now
 
-pub returns-in_err-row : goal.returns-in_err-row
-returns-in_err-row c =
+pub returns-in_err-row-clause-read : goal.returns-in_err-row-clause-read
+returns-in_err-row-clause-read c =
     let p = err_from_is_err_and c.from_residual.result c.from_residual.ensures.1 in
     rw (p.1, p.2) (depot-turn-refused c.args.sizes.trainees c.args.base c.loop-c.invariant c.loop-c-test.true c.in_err-row.ensures)
 
@@ -16,5 +16,5 @@ loop-c-preserved c =
     rw (c.unwrap_or.ensures, c.unwrap_or-in-loop-c.ensures, c.unwrap_or-in-loop-c-2.ensures)
     (depot-turn-on c.args.sizes.trainees c.args.base c.loop-c.invariant c.loop-c-test.true _ c.in_ok-row.row _ c.in_ok-row.ensures)
 
-pub returns : goal.returns
-returns c = depot-done c.args.sizes.trainees c.args.base c.loop-c.invariant c.loop-c-test.false
+pub returns-clause-read : goal.returns-clause-read
+returns-clause-read c = depot-done c.args.sizes.trainees c.args.base c.loop-c.invariant c.loop-c-test.false

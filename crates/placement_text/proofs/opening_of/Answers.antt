@@ -1,22 +1,37 @@
--- Each word is tried at the same place.
-use mathlib.Core.Path.{◌≡◌, sym, subst, ◌∙◌}
-use Rattle.std.proofs.Common.{rules}
-use Rattle.std.proofs.lemmas.Result.{err_from_is_err_and}
-use Rattle.std.specs.Prelude.{Ok, Err, MatchResult}
-use Rattle.fields.specs.Leaves.{wrong_on}
-use Rattle.fields.specs.Reader.{keyword}
-use Rattle.fields.specs.Bytes.{word_end}
+-- The word is looked for once, and compared with each of the three in turn.
+use mathlib.Core.Path.{◌≡◌, sym, ap, ◌∙◌}
+use mathlib.Core.Bool.{Bool}
+use mathlib.Core.List.{List}
+use Prim.Native.Nat.{ℕ}
+use lib.Pointwise.{pointwise}
+use Rattle.std.specs.Prelude.{nat_eq}
+use Rattle.fields.specs.Bytes.{same, word_end}
+use Rattle.fields.proofs.Ways.{same_pointwise}
 use Rattle.placement_text.specs.Words.{word_F, word_X}
-use Rattle.placement_text.proofs.Ways.{OnLine, on-line}
-use Rattle.placement_text.proofs.Below.{other-word, opens-other}
+use Rattle.placement_text.proofs.Below.{opens-held, opens-barred, opens-end, opens-other, orders-other}
 use Rattle.placement_text.proofs.opening_of.Goals as goal
 
-pub returns-in_err-map_err : goal.returns-in_err-map_err
-returns-in_err-map_err c =
-    let l = c.args.l in
-    let p = err_from_is_err_and c.from_residual.result c.from_residual.ensures.1 in
-    let F = other-word word_F _ _ c.keyword.result (sym c.is_ok.ensures.value ∙ c.if-is_ok.false) c.keyword.ensures.read c.keyword.ensures.kept in
-    let X = other-word word_X _ _ c.keyword-2.result (sym c.is_ok-2.ensures.value ∙ c.if-is_ok-2.false) c.keyword-2.ensures.read c.keyword-2.ensures.kept in
-    let m : MatchResult c.keyword-3.result (λ v. c.map_err.result ≡ Ok v) (λ w. c.map_err.result ≡ Err (wrong_on w l)) = search rules in
-    let e = subst (OnLine l (keyword word_end c.keyword-2.new.self.rest.now) c.keyword-3.new.self.rest.now) c.in_err-map_err.was (on-line l _ _ c.keyword-3.result c.map_err.result m c.keyword-3.ensures.read) in
-    rw (p.1, p.2, e.1) (opens-other l F X e.0)
+compared : (w k : List ℕ) {s : List ℕ} {r b : Bool} → s ≡ k → r ≡ pointwise nat_eq w s → r ≡ b → same w k ≡ b
+compared w k e f g = sym (same_pointwise w k) ∙ ap (pointwise nat_eq w) (sym e) ∙ sym f ∙ g
+
+pub returns-then-eq : goal.returns-then-eq
+returns-then-eq c = opens-held c.word-word.ensures (compared _ word_F c.as_slice.ensures c.eq.ensures c.if-eq.true)
+
+pub returns-then-eq-2 : goal.returns-then-eq-2
+returns-then-eq-2 c =
+    opens-barred c.word-word.ensures (compared _ word_F c.as_slice.ensures c.eq.ensures c.if-eq.false)
+    (compared _ word_X c.as_slice-2.ensures c.eq-2.ensures c.if-eq-2.true)
+
+pub returns-then-eq-3 : goal.returns-then-eq-3
+returns-then-eq-3 c =
+    opens-end c.word-word.ensures (compared _ word_F c.as_slice.ensures c.eq.ensures c.if-eq.false)
+    (compared _ word_X c.as_slice-2.ensures c.eq-2.ensures c.if-eq-2.false)
+    (compared _ word_end c.as_slice-3.ensures c.eq-3.ensures c.if-eq-3.true)
+
+pub returns : goal.returns
+returns c =
+    let o =
+    opens-other c.word-word.ensures (compared _ word_F c.as_slice.ensures c.eq.ensures c.if-eq.false)
+    (compared _ word_X c.as_slice-2.ensures c.eq-2.ensures c.if-eq-2.false)
+    (compared _ word_end c.as_slice-3.ensures c.eq-3.ensures c.if-eq-3.false) in
+    λ n m k os. orders-other n m c.args.l _ k os o

@@ -22,12 +22,12 @@ pub loop-pair-preserved : goal.loop-pair-preserved
 loop-pair-preserved c =
     let a = c.args in
     let l = c.loop-pair in
-    let M = subst (λ p. OrderRead a.sizes.trainees a.sizes.depots (a.l + l.c) l.c l.text.rest.now c.order.new.text.rest.now (Ok p)) c.in-Some.is c.in_ok-pair.ensures in
+    let M = subst (λ p. OrderRead a.sizes.trainees a.sizes.depots (a.l + l.c) l.c l.after.rest.now c.order.new.text.rest.now (Ok p)) c.in-Some.is c.in_ok-pair.ensures in
     rw (kind-cell c.in-Some.pair.kind) (pairs-on l.invariant M)
 
-pub returns : goal.returns
-returns c =
+pub returns-clause-read : goal.returns-clause-read
+returns-clause-read c =
     let a = c.args in
     let l = c.loop-pair in
-    let E = subst (λ p. OrderRead a.sizes.trainees a.sizes.depots (a.l + l.c) l.c l.text.rest.now c.order.new.text.rest.now (Ok p)) c.in_default.is c.in_ok-pair.ensures in
+    let E = subst (λ p. OrderRead a.sizes.trainees a.sizes.depots (a.l + l.c) l.c l.after.rest.now c.order.new.text.rest.now (Ok p)) c.in_default.is c.in_ok-pair.ensures in
     pairs-done l.invariant E

@@ -12,7 +12,7 @@ use Rattle.placement_text.proofs.received.Goals as goal
 
 pub returns-then-eq : goal.returns-then-eq
 returns-then-eq c =
-    received-mark c.args.k c.args.hi _ c.in_ok-w.ensures
+    received-mark c.args.k c.args.hi _ c.in_ok-w.ensures.read
     (sym (same_pointwise _ word_?) ∙ ap (pointwise nat_eq c.in_ok-w.w.now) (sym c.as_slice.ensures) ∙ sym c.eq.ensures ∙ c.if-eq.true)
 
 pub returns-in_err-v : goal.returns-in_err-v
@@ -20,16 +20,16 @@ returns-in_err-v c =
     let p = err_from_is_err_and c.from_residual-in_err-v.result c.from_residual-in_err-v.ensures.1 in
     let m : same c.in_ok-w.w.now word_? ≡ false = sym (same_pointwise _ word_?) ∙ ap (pointwise nat_eq c.in_ok-w.w.now) (sym c.as_slice.ensures) ∙ sym c.eq.ensures ∙ c.if-eq.false in
     let n = no-number _ _ c.number_in.ensures c.ok_or.ensures.value c.in_err-v.was in
-    rw (p.1, p.2, n.1) (received-wrong c.args.k c.args.hi _ c.in_ok-w.ensures m n.0)
+    rw (p.1, p.2, n.1) (received-wrong c.args.k c.args.hi _ c.in_ok-w.ensures.read m n.0)
 
 pub returns-then-hi-v : goal.returns-then-hi-v
 returns-then-hi-v c =
     let m : same c.in_ok-w.w.now word_? ≡ false = sym (same_pointwise _ word_?) ∙ ap (pointwise nat_eq c.in_ok-w.w.now) (sym c.as_slice.ensures) ∙ sym c.eq.ensures ∙ c.if-eq.false in
     let n = a-number _ _ c.number_in.ensures c.ok_or.ensures.value c.in_ok-v.was in
-    received-large c.args.k c.args.hi _ c.in_ok-w.ensures m n c.if-hi-v.true
+    received-large c.args.k c.args.hi _ c.in_ok-w.ensures.read m n c.if-hi-v.true
 
 pub returns : goal.returns
 returns c =
     let m : same c.in_ok-w.w.now word_? ≡ false = sym (same_pointwise _ word_?) ∙ ap (pointwise nat_eq c.in_ok-w.w.now) (sym c.as_slice.ensures) ∙ sym c.eq.ensures ∙ c.if-eq.false in
     let n = a-number _ _ c.number_in.ensures c.ok_or.ensures.value c.in_ok-v.was in
-    received_is c.args.k c.args.hi _ c.in_ok-w.ensures m n c.if-hi-v.false
+    received_is c.args.k c.args.hi _ c.in_ok-w.ensures.read m n c.if-hi-v.false

@@ -6,8 +6,8 @@ use Rattle.placement_text.proofs.trainee_lines.Goals as goal
 pub loop-c-init : goal.loop-c-init
 loop-c-init c = trainee-start c.args.sizes.depots c.args.text.now.rest.now c.args.sizes.trainees c.args.h.now c.args.t.now
 
-pub returns-in_err-list : goal.returns-in_err-list
-returns-in_err-list c =
+pub returns-in_err-list-clause-read : goal.returns-in_err-list-clause-read
+returns-in_err-list-clause-read c =
     let p = err_from_is_err_and c.from_residual.result c.from_residual.ensures.1 in
     rw (p.1, p.2) (trainee-turn-refused c.args.sizes.depots c.loop-c.invariant c.loop-c-test.true c.in_err-list.ensures)
 
@@ -16,5 +16,5 @@ loop-c-preserved c =
     rw (c.unwrap_or.ensures, c.unwrap_or-in-loop-c.ensures)
     (trainee-turn-on c.args.sizes.depots c.loop-c.invariant c.loop-c-test.true _ c.in_ok-list.list _ c.in_ok-list.ensures)
 
-pub returns : goal.returns
-returns c = trainee-done c.args.sizes.depots c.loop-c.invariant c.loop-c-test.false
+pub returns-clause-read : goal.returns-clause-read
+returns-clause-read c = trainee-done c.args.sizes.depots c.loop-c.invariant c.loop-c-test.false
