@@ -50,9 +50,11 @@ impl<'a> Pen<'a> {
         requires { Room self.old (digits_of v) }
         ensures { Wrote self.old self.new (digits_of v) }
     {
-        if 10 <= v {
-            self.digits(v / 10);
+        if v < 10 {
+            self.byte(48 + v as u8);
+            return;
         }
+        self.digits(v / 10);
         self.byte(48 + (v % 10) as u8);
     }
 
