@@ -295,6 +295,19 @@ module _ (ed n m : ℕ) (h e : List ℕ) where
         go ts true ds = here ts ds
         go ts false ds = refl
 
+    -- neither too many entries nor posts out of range wait for the depots' lists
+    pub lists-long : 4096 < s → false ≡ is_some (lists_from ed n m (drop 3 h) e)
+    unfolding ◌&◌
+    lists-long k = sym (lists-tests ∙ rw (lt-leb s 4096 k))
+
+    pub lists-shut : all_posts m (drop (3 + 2 * n) h) ≡ false → false ≡ is_some (lists_from ed n m (drop 3 h) e)
+    unfolding when ◌&◌
+    lists-shut q = sym (lists-tests ∙ rw q (go (leb s 4096)))
+      where
+        go : (a : Bool) → a & false ≡ false
+        go true = refl
+        go false = refl
+
     pub lists-none : lists ≡ none → false ≡ is_some (lists_from ed n m (drop 3 h) e)
     unfolding when ◌&◌
     lists-none q = sym (lists-tests ∙ rw q (go (leb s 4096) (all_posts m (drop (3 + 2 * n) h))))

@@ -281,7 +281,7 @@ fn limits_ok(edition: usize, n: usize, m: usize) -> bool
     edition == 1 && n <= 256 && m <= 64
 }
 
-// Whether the lists and posts are ones that a reader fills.
+// Whether the lists and posts are ones that a reader fills: what refuses most cheaply is asked before the depots' lists are walked.
 fn lists_ok(heads: &[u16], entries: &[u16], n: usize, m: usize) -> bool
     requires { (707 ≤ length heads.now) × (n ≤ 256) × (m ≤ 64) }
     ensures { result ≡ is_some (lists_from (get_or heads.now 0 0) n m (drop 3 heads.now) entries.now) }
@@ -301,10 +301,13 @@ fn lists_ok(heads: &[u16], entries: &[u16], n: usize, m: usize) -> bool
     let Some(s) = trainees.end(heads, entries, 0) else {
         return false;
     };
+    if 4096 < s || !all_posts_ok(heads, n, m) {
+        return false;
+    }
     let Some(f) = depots.end(heads, entries, s) else {
         return false;
     };
-    s <= 4096 && f - s <= 4096 && all_posts_ok(heads, n, m)
+    f - s <= 4096
 }
 
 // Whether heads and entries hold the sides of a placement.
@@ -327,7 +330,8 @@ fn order_ok(orders: &[u16], at: usize, n: usize, m: usize) -> bool
         && in_range(order_depot(orders, at), m)
 }
 
-// Whether the first `count` orders are ones.
+// Whether the first `count` orders are ones. Compiled apart, so that the loop keeps what it reads in registers.
+#[inline(never)]
 fn first_orders_ok(orders: &[u16], count: usize, n: usize, m: usize) -> bool
     requires { (1 + 3 * count ≤ length orders.now) × (count ≤ 1024) }
     ensures { result ≡ is_some (orders_from n m count (drop 1 orders.now)) }
