@@ -1,8 +1,8 @@
 // Strikes as plain cells, four to a strike, and the lent record of strikes. What solves and checks works on plain cells.
 #![tactic(auto)]
 
-ghost use Rattle.std.specs.Prelude.{◌≡◌, ◌+◌, ◌*◌, ◌≤◌, length, Result};
-ghost use Rattle.strikes.specs.Cells.{cells_with, filled, flat, recorded, strike_at, strikes_in, taken};
+ghost use Rattle.std.specs.Prelude.{◌≡◌, ◌+◌, ◌*◌, ◌<◌, ◌≤◌, length, set, Result};
+ghost use Rattle.strikes.specs.Cells.{at, cells_with, filled, flat, recorded, strike_at, strikes_in, taken};
 
 use meaning::{Refusal, Ruling, Strike};
 
@@ -24,6 +24,29 @@ pub fn put_strike(cells: &mut [u16], k: usize, s: Strike)
     cells[b..b + 4].copy_from_slice(&<[u16; 4]>::from(s));
 }
 
+// The length of a record.
+pub fn record_len(log: &[Strike]) -> usize
+    ensures { result ≡ length log.now }
+{
+    log.len()
+}
+
+// One strike is taken out of a record.
+pub fn strike_at(log: &[Strike], k: usize) -> Strike
+    requires { k < length log.now }
+    ensures { result ≡ at log.now k }
+{
+    log[k]
+}
+
+// One strike is stored in a record.
+pub fn store(log: &mut [Strike], k: usize, s: Strike)
+    requires { k < length log.old }
+    ensures { log.new ≡ set log.old k s }
+{
+    log[k] = s;
+}
+
 // The strikes that the cells hold go into the record's front, and the rest of the record stays. What fills has a loop for each pair of source and target:
 // a closure for where the k-th strike comes from, with a law for each, would be no plainer.
 pub fn fill_record(log: &mut [Strike], cells: &[u16], count: usize)
@@ -31,7 +54,7 @@ pub fn fill_record(log: &mut [Strike], cells: &[u16], count: usize)
     ensures { log.new ≡ filled cells.now log.old count }
 {
     for k in 0..count {
-        log[k] = strike_in(cells, k);
+        store(log, k, strike_in(cells, k));
     }
 }
 
@@ -41,7 +64,7 @@ pub fn flatten(log: &[Strike], count: usize, cells: &mut [u16])
     ensures { cells.new ≡ flat log.now cells.old count }
 {
     for k in 0..count {
-        put_strike(cells, k, log[k]);
+        put_strike(cells, k, strike_at(log, k));
     }
 }
 

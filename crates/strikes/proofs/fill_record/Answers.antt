@@ -12,6 +12,7 @@ pub loop-k-preserved : goal.loop-k-preserved
 loop-k-preserved c =
     let k = c.loop-k.k in
     let inside : k < length c.args.log.now = omega arith in
-    ap₂ (λ log s. set log k s) c.loop-k.invariant c.strike_in.ensures
+    c.store.ensures
+    ∙ ap₂ (λ log s. set log k s) c.loop-k.invariant c.strike_in.ensures
     ∙ fill_more c.args.cells.now c.args.log.now k inside
     ∙ ap (filled c.args.cells.now c.args.log.now) (sym (add-one k))
