@@ -6,7 +6,7 @@ ghost use Rattle.meaning.specs.Numbers.{In, ◌&◌};
 ghost use Rattle.meaning.specs.Lists.{place};
 ghost use Rattle.meaning.specs.Market.{mutual?};
 ghost use Rattle.meaning.specs.Endings.{table_of};
-ghost use Rattle.meaning.specs.Stability.{first_stranger, first_over, first_on, blocking_from, over_or, test_by};
+ghost use Rattle.meaning.specs.Stability.{first_stranger, first_over, blocking_from, over_or, test_by};
 ghost use Rattle.tables.specs.Decode.{placement_of};
 ghost use Rattle.tables.specs.Answers.{Same};
 ghost use Rattle.ranks.specs.View.{n_of, m_of, wishes_of, ranking_of, posts_of, market_of, FullTables};
@@ -125,30 +125,20 @@ impl<'a> Search<'a> {
         }
     }
 
-    // The highest on trainee i's list that blocks with them, where x is their own depot.
-    fn first_on(&self, i: usize, x: usize) -> Option<u16>
-        requires { In (n_of self.now.market.heads.now) i × (x ≡ table_of self.now.table.now i) }
-        ensures { found_of result ≡ first_on (market_of self.now.market.heads.now self.now.market.entries.now) (table_of self.now.table.now) i (wishes_of self.now.market.heads.now self.now.market.entries.now i) }
-    {
-        let above = above_own(self.market.wishes(i), x);
-        for j in above {
-            if self.takes(i, usize::from(*j)) {
-                return Some(*j);
-            }
-        }
-        None
-    }
-
     // The blocking pair of the smallest trainee, highest on that list: the search stops at the first found.
     fn first_blocking(&self) -> Tested
         ensures { result ≡ blocking_from (market_of self.now.market.heads.now self.now.market.entries.now) (wishes_of self.now.market.heads.now self.now.market.entries.now) (table_of self.now.table.now) (n_of self.now.market.heads.now) 1 }
     {
-        for (k, x) in self.table.iter().enumerate() {
-            if let Some(j) = self.first_on(k + 1, usize::from(*x)) {
-                return Tested::Blocking(k as u16 + 1, j);
+        let mut found = Tested::Stable;
+        'search: for (k, x) in self.table.iter().enumerate() {
+            for j in above_own(self.market.wishes(k + 1), usize::from(*x)) {
+                if self.takes(k + 1, usize::from(*j)) {
+                    found = Tested::Blocking(k as u16 + 1, *j);
+                    break 'search;
+                }
             }
         }
-        Tested::Stable
+        found
     }
 }
 
