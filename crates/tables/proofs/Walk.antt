@@ -16,7 +16,7 @@ use Rattle.meaning.specs.Lists.{weigh}
 use Rattle.meaning.specs.Placement.{Kind, Order, Depot, depot, size, depot_size}
 use Rattle.meaning.proofs.Booleans.{some-own, none-some}
 use Rattle.tables.proofs.Tests.{when-goes, when-stops}
-use Rattle.tables.specs.Cells.{missing_cell, CellGives, weightless, depot_start, order_start}
+use Rattle.tables.specs.Cells.{missing_cell, CellGives, weightless, depot_start}
 use Rattle.std.specs.Option.{MatchOption}
 use Rattle.tables.specs.Decode.{within, next, when, good_entries, list_from, posts_from, trainee_from, depot_from, kind_from, pair_from, order_from, series_from, trainees_from, depots_from, orders_from, limits, Sides, lists_from, sides_of, orders_of, few_orders_of, placement_with, placement_of}
 use Rattle.tables.specs.Walk.{is_some, end_of, Ends, all_posts}
@@ -204,22 +204,24 @@ depots-are n (suc d) s (a ∷ v ∷ p ∷ hs) es k = go (eqb a s) (posts_from p)
         end-cons depot_size s (depot q l) (series_from (depot_from n) depot_size 3 d (s + size l) hs (drop (size l) es)) ∙ ih (size l)
         ∙ ap (when (all_posts d hs)) (sym (end-cons size s l (series_from (trainee_from n) size 3 d (s + size l) hs (drop (size l) es))))
 
--- ---- orders
+-- ---- orders: they have no entries, so the end of their walk is 0 exactly if each is one
 
-pub orders-each : (n m : ℕ) (o : List ℕ) (d k : ℕ)
-    → list_all (λ k. is_some (order_from n m 0 (drop (order_start k) o) [])) (range_with_len k d) ≡ is_some (series_from (order_from n m) weightless 3 d 0 (drop (order_start k) o) [])
-unfolding series_from weightless next
-orders-each n m o zero k = refl
-orders-each n m o (suc d) k =
-    let z : order_start k + 3 ≡ order_start (k + 1) = omega arith in
-    ap (λ b. is_some (order_from n m 0 (drop (order_start k) o) []) && b)
-    (orders-each n m o d (k + 1) ∙ sym (ap (λ r. is_some (series_from (order_from n m) weightless 3 d 0 r [])) (drop-drop 3 (order_start k) o ∙ ap (λ i. drop i o) z)))
-    ∙ go (order_from n m 0 (drop (order_start k) o) []) (series_from (order_from n m) weightless 3 d 0 (drop 3 (drop (order_start k) o)) [])
-  where
-    go : (x : Option Order) (r : Option (List Order)) → is_some x && is_some r ≡ is_some (next x (λ a. next r (λ rest. some (a ∷ rest))))
-    go none r = refl
-    go (some a) none = refl
-    go (some a) (some r) = refl
+pub is-some : {A : Type 0} (w : A → ℕ) (s : ℕ) (o : Option A) {t : ℕ} → end_of w s o ≡ some t → true ≡ is_some o
+is-some w s none h = none-some h
+is-some w s (some a) h = refl
+
+pub is_none : {A : Type 0} (w : A → ℕ) (s : ℕ) (o : Option A) → end_of w s o ≡ none → false ≡ is_some o
+is_none w s none h = refl
+is_none w s (some a) h = none-some (sym h)
+
+pub some-light : {A : Type 0} (o : Option A) → is_some o ≡ true → end_of weightless 0 o ≡ some 0
+unfolding weightless
+some-light none h = absurd (false≢true h)
+some-light (some a) h = refl
+
+pub none-light : {A : Type 0} (o : Option A) → is_some o ≡ false → end_of weightless 0 o ≡ none
+none-light none h = refl
+none-light (some a) h = absurd (false≢true (sym h))
 
 module _ (n m at : ℕ) (o : List ℕ) (k : at + 2 < length o) where
   abbrev pair : Kind → Option Order

@@ -336,7 +336,12 @@ fn first_orders_ok(orders: &[u16], count: usize, n: usize, m: usize) -> bool
     requires { (1 + 3 * count ≤ length orders.now) × (count ≤ 1024) }
     ensures { result ≡ is_some (orders_from n m count (drop 1 orders.now)) }
 {
-    (0..count).all(|k| order_ok(orders, order_at(k), n, m))
+    for k in 0..count {
+        if !order_ok(orders, order_at(k), n, m) {
+            return false;
+        }
+    }
+    true
 }
 
 // Whether a table holds orders of n trainees and m depots, no more than a file may have.
