@@ -1,5 +1,5 @@
 -- What a pen puts one after the other, and the room for it.
-use Prim.Native.Nat.{ℕ, suc, ◌+◌, ◌-◌, ◌/◌, ◌%◌, ◌≤◌, ◌<◌}
+use Prim.Native.Nat.{ℕ, suc, ◌+◌, ◌-◌, ◌%◌, ◌≤◌, ◌<◌}
 use mathlib.Core.Path.{◌≡◌, refl, sym, ap, ap₂, ◌∙◌, subst}
 use mathlib.Core.List.{List, [], ◌∷◌, ◌++◌, append-nil, append_assoc}
 use native.Mathlib.Omega.{arith}
@@ -13,7 +13,7 @@ use Rattle.fields.specs.Number.{digits_of}
 use Rattle.fields.specs.Writer.{write_number, write_numbers, write_lines, lines_by}
 use Rattle.fields.specs.Leaves.{Put}
 use Rattle.fields.specs.Pen.{Room, Wrote}
-use Rattle.fields.proofs.Puts.{put_then, digits-one, digits-split, digit-more}
+use Rattle.fields.proofs.Puts.{put_then, digits-one}
 
 pub wrote_none : (p : Pen) → Wrote p p []
 wrote_none p = record { same = refl; size = refl; put = record { cells = refl; next = sym (add-zero p.at) } }
@@ -40,12 +40,6 @@ room_next {p} {q} {x} y W h = let l = length-append x y in omega (arith, W.put.n
 
 pub digits-first : {p q : Pen} (v : ℕ) → v < 10 → Wrote p q ((48 + v % 10) ∷ []) → Wrote p q (digits_of v)
 digits-first v h W = let e : v % 10 ≡ v = omega arith in wrote_as (ap (λ k. (48 + k) ∷ []) e ∙ sym (digits-one v h)) W
-
-pub digits_last : {p q r : Pen} (v : ℕ) → 10 ≤ v → Wrote p q (digits_of (v / 10)) → Wrote q r ((48 + v % 10) ∷ []) → Wrote p r (digits_of v)
-digits_last v h V W = wrote_as (sym (digits-split v h)) (wrote_then V W)
-
-pub digit_room : {p q : Pen} (v : ℕ) → 10 ≤ v → Wrote p q (digits_of (v / 10)) → Room p (digits_of v) → Room q ((48 + v % 10) ∷ [])
-digit_room v h W r = omega (arith, digit-more v h, W.put.next, W.size)
 
 -- ---- one part after the other
 

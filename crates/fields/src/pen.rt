@@ -1,7 +1,7 @@
 // Bytes put one after the other into an output, in words, numbers and lines.
 
 ghost use Rattle.std.specs.Prelude.{ℕ, List, ◌∷◌, [], ◌+◌, ◌≤◌, ◌<◌};
-ghost use Rattle.fields.specs.Number.{digits_of};
+ghost use Rattle.fields.specs.Number.{digits_of, last_digit};
 ghost use Rattle.fields.specs.Pen.{Room, Wrote};
 ghost use Rattle.fields.specs.Writer.{write_number, write_numbers, write_line, lines_by};
 
@@ -45,7 +45,19 @@ impl<'a> Pen<'a> {
         self.at = end;
     }
 
-    // Puts the digits of a number. Not by `write!`, whose writer can fail, where there is room for all that is put: a case more, and no plainer.
+    // Puts the last digit of q, unless q is 0: of a number's tenth part, hundredth part and so on, the digits that stand before its last.
+    fn last_digit(&mut self, q: u16)
+        requires { Room self.old (last_digit q) }
+        ensures { Wrote self.old self.new (last_digit q) }
+    {
+        if 0 < q {
+            self.byte(48 + (q % 10) as u8);
+        }
+    }
+
+    // Puts the digits of a number, with no call, so that the pen's position needn't go through memory. Not by `write!`, whose writer can fail, where there is
+    // room for all that is put: a case more, and no plainer.
+    #[inline(always)]
     fn digits(&mut self, v: u16)
         requires { Room self.old (digits_of v) }
         ensures { Wrote self.old self.new (digits_of v) }
@@ -54,7 +66,10 @@ impl<'a> Pen<'a> {
             self.byte(48 + v as u8);
             return;
         }
-        self.digits(v / 10);
+        self.last_digit(v / 10000);
+        self.last_digit(v / 1000);
+        self.last_digit(v / 100);
+        self.last_digit(v / 10);
         self.byte(48 + (v % 10) as u8);
     }
 
