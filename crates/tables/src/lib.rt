@@ -222,9 +222,10 @@ fn list_end(heads: &[u16], entries: &[u16], at: usize, s: usize, hi: usize) -> O
     if start_of(heads, at) != s {
         return None;
     }
-    let Some(v) = length_of(heads, at) else {
+    if length_of(heads, at).is_none() {
         return Some(s);
-    };
+    }
+    let v = cell(heads, at + 1);
     let to = s + v;
     let list = entries.get(s..to)?;
     if v <= hi && good_entries(list, hi) {
