@@ -78,11 +78,12 @@ impl<'a> Trial<'a> {
         match self.first_over(&counts) {
             Some(j) => Tested::OverPosts(j),
             None => {
+                let worsts = self.worsts();
                 let search = Search {
                     market: self.market,
                     table: self.table,
-                    counts,
-                    worsts: self.worsts(),
+                    counts: &counts,
+                    worsts: &worsts,
                 };
                 search.first_blocking()
             }
@@ -105,16 +106,16 @@ impl<'a> Trial<'a> {
 struct Search<'a> {
     market: Market<'a>,
     table: &'a [u16],
-    counts: [u16; 65],
-    worsts: [u16; 65],
-    ghost known: { SearchTables market.heads.now market.entries.now table.now counts worsts },
+    counts: &'a [u16; 65],
+    worsts: &'a [u16; 65],
+    ghost known: { SearchTables market.heads.now market.entries.now table.now counts.now worsts.now },
 }
 
 impl<'a> Search<'a> {
     // Whether depot j ranks trainee i and would take them: it has room, or one whom it ranks below.
     fn takes(&self, i: usize, j: usize) -> bool
         requires { In (m_of self.now.market.heads.now) j }
-        ensures { result ≡ takes_at (place (ranking_of self.now.market.heads.now self.now.market.entries.now j) i) (posts_of self.now.market.heads.now j) (get_or self.now.counts j 0) (get_or self.now.worsts j 0) }
+        ensures { result ≡ takes_at (place (ranking_of self.now.market.heads.now self.now.market.entries.now j) i) (posts_of self.now.market.heads.now j) (get_or self.now.counts.now j 0) (get_or self.now.worsts.now j 0) }
     {
         match rank_at(&self.market, j, i) {
             None => false,

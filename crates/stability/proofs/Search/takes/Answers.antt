@@ -16,4 +16,4 @@ returns-then-room c = let r = rank-some _ _ c.in-Some.ensures in lt-ltb _ _ c.if
 pub returns-else-room : goal.returns-else-room
 returns-else-room c =
     let r = rank-some _ _ c.in-Some.ensures in
-    ap (λ k. ltb k (get_or c.args.self.now.worsts c.args.j 0)) (sym r.0) ∙ takes-worse _ _ _ _ (λ z. r.1 (sym r.0 ∙ z)) (omega (arith, c.if-room.false, c.posts.ensures, c.from.ensures))
+    ap (λ k. ltb k (get_or c.args.self.now.worsts.now c.args.j 0)) (sym r.0) ∙ takes-worse _ _ _ _ (λ z. r.1 (sym r.0 ∙ z)) (omega (arith, c.if-room.false, c.posts.ensures, c.from.ensures))
