@@ -15,7 +15,7 @@ digits (suc k) v = elim (ltb v 10) [ true ↦ (48 + v) ∷ [] | false ↦ digits
 unfoldable pub digits_of : ℕ → List ℕ
 digits_of v = digits v v
 
--- the last digit of q, none where q is 0: of a number's tenth part, hundredth part and so on, the digits that stand before its last
+-- the last digit of q, none where q is 0: with v / 10, v / 100 and so on for q, the digits of v before its last
 unfoldable pub last_digit : ℕ → List ℕ
 last_digit q = elim (ltb 0 q) [ true ↦ (48 + q % 10) ∷ [] | false ↦ [] ]
 

@@ -45,7 +45,7 @@ impl<'a> Pen<'a> {
         self.at = end;
     }
 
-    // Puts the last digit of q, unless q is 0: of a number's tenth part, hundredth part and so on, the digits that stand before its last.
+    // Puts the last digit of q, unless q is 0. Given v / 100 and then v / 10, say, it puts the digits of v before its last.
     fn last_digit(&mut self, q: u16)
         requires { Room self.old (last_digit q) }
         ensures { Wrote self.old self.new (last_digit q) }
@@ -55,8 +55,8 @@ impl<'a> Pen<'a> {
         }
     }
 
-    // Puts the digits of a number, with no call, so that the pen's position needn't go through memory. Not by `write!`, whose writer can fail, where there is
-    // room for all that is put: a case more, and no plainer.
+    // Puts the digits of a number; one digit without asking for those before it. It doesn't call itself, so that the pen's position needn't go through memory.
+    // Not by `write!`, whose writer can fail, where there is room for all that is put: a case more, and no plainer.
     #[inline(always)]
     fn digits(&mut self, v: u16)
         requires { Room self.old (digits_of v) }

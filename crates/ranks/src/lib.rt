@@ -67,7 +67,7 @@ impl<'a> Market<'a> {
     }
 }
 
-// The place of x on a list, counted from 0, if it is there. x is compared as a cell's number, since solving spends most of its time in this search.
+// The place of x on a list, counted from 0, if it is there. x is compared as a cell's number, so that no cell is widened: solving spends most of its time here.
 pub fn place_on(list: &[u16], x: usize) -> Option<usize>
     ensures { place_of result ≡ place list.now x }
 {

@@ -214,7 +214,8 @@ fn good_entries(list: &[u16], hi: usize) -> bool
     true
 }
 
-// Where the list ends whose cells stand at `at` and whose entries start at s; none if no reader could have filled the cells.
+// Where the list ends whose cells stand at `at` and whose entries start at s; none if no reader could have filled the cells. The length is read where there is
+// one: taken out of `length_of`, it would be made for a list not received too.
 fn list_end(heads: &[u16], entries: &[u16], at: usize, s: usize, hi: usize) -> Option<usize>
     requires { (at + 1 < length heads.now) × (s ≤ length entries.now) × (hi ≤ 256) }
     ensures { Ends (length entries.now) (end_of size s (trainee_from hi s (drop at heads.now) (drop s entries.now))) result }
