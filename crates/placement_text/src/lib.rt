@@ -61,7 +61,9 @@ fn received(text: &mut Cursor, k: usize, hi: u16) -> Result<Option<u16>, Wrong>
     Ok(Some(v as u16))
 }
 
-// `count` entries from the field k on, into the cells of t from `start` on; `seen` marks those of this list.
+// `count` entries from the field k on, into the cells of t from `start` on; `seen` marks those of this list. Compiled apart, so that the loop keeps what it
+// reads in registers.
+#[inline(never)]
 fn entries(
     text: &mut Cursor,
     k: usize,
